@@ -1,4 +1,4 @@
--- The symbols of an alphabet tell their places.
+-- Each symbol of an alphabet has one index.
 use Rattle.std.proofs.Common.{◌≡◌, inl, inr, ℕ, zero, suc, ◌<◌, Bool, true, false, not, ◌&&◌, List, [], ◌∷◌, length, map, refl, sym, ap, ◌∙◌, arith, eq-eqb, ◌==◌, slice_index, IsTrue, Contains, slice_index_or, true≢false, eqb-true}
 use Rattle.std.proofs.lemmas.Bool.{cases_lt, cases_eq}
 use Rattle.std.specs.Int.Digits.{AllBelowBase}
@@ -30,7 +30,7 @@ same_place s n i j a h k e = elim (cases_lt i j) [
   ]
 ]
 
--- symbols tell the numbers
+-- numbers with the same symbols are the same
 pub same_from_symbols : (s : List ℕ) (n : ℕ) (vs us : List ℕ) → IsTrue (is_alphabet n s) → AllBelowBase n vs → AllBelowBase n us → map (slice_index s) vs ≡ map (slice_index s) us → vs ≡ us
 same_from_symbols s n [] [] a h k e = refl
 same_from_symbols s n [] (u ∷ us) a h k e = absurd (cc e)

@@ -103,7 +103,7 @@ pub all_bits_below : (w : ℕ) (vs : List ℕ) → AllBelowBase 2 (flat_map (bit
 all_bits_below w [] = tt
 all_bits_below w (v ∷ vs) = all_append (λ d. d < 2) (bits w v) (flat_map (bits w) vs) (bits_below w v) (all_bits_below w vs)
 
--- the bits tell the numbers
+-- numbers with the same bits are the same
 pub same_from_bits : (w : ℕ) (vs us : List ℕ) → 0 < w → AllBelowBase (2 ^ w) vs → AllBelowBase (2 ^ w) us → flat_map (bits w) vs ≡ flat_map (bits w) us → vs ≡ us
 same_from_bits w [] [] some h k e = refl
 same_from_bits w [] (u ∷ us) some h k e = absurd (omega (arith, ap length e, length-append (bits w u) (flat_map (bits w) us), length-bits w u))

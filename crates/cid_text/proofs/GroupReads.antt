@@ -11,7 +11,7 @@ use Rattle.cid_text.proofs.Alphabet.{no_other_symbol, alphabet_length}
 use Rattle.cid_text.proofs.Bits.{all_push, same_front, length-bits, join, same_number, bits_of_zero, length-all_bits}
 use Rattle.cid_text.proofs.Grouping.{grouping_length, grouping_of_text, text_of_grouping, no_bytes_of_others, one_more, pushed, parts}
 
--- the bytes that were read, and the bits that fill none yet, are the bits of the text
+-- the bytes that were read, and the bits that do not fill a byte yet, are the bits of the text
 pub record IsRead (w : ℕ) (symbols text bytes : List ℕ) (held rest : ℕ) : Type 0 where
   pub values : List ℕ
   pub below : AllBelowBase (2 ^ w) values
@@ -128,7 +128,7 @@ symbol_taken {w} {symbols} {bytes} {held} {rest} text i v g here small symbol =
 pub whole_read : {w : ℕ} {symbols bytes : List ℕ} {held rest : ℕ} (text : List ℕ) (i : ℕ) → IsRead w symbols (take i text) bytes held rest → length text ≤ i → IsRead w symbols text bytes held rest
 whole_read {w} {symbols} {bytes} {held} {rest} text i g past = subst (λ t. IsRead w symbols t bytes held rest) (take_all i text past) g
 
--- a character that is no symbol
+-- a character that is not a symbol
 pub other_symbol : (w : ℕ) (symbols text : List ℕ) (i x : ℕ) → IsBase w symbols → i < length text → x ≡ get_or text i 0 → IsNoSymbol symbols x → ((b : List ℕ) → text ≢ text_in_groups w symbols b) × HasOtherCharacter symbols text
 other_symbol w symbols text i x base here is none =
     let there = subst (Contains text) (sym is) (Contains-get_or text i 0 here) in

@@ -20,7 +20,7 @@ zeros_below : (n : ℕ) → AllBelowBase 2 (replicate n 0)
 zeros_below zero = tt
 zeros_below (suc n) = (omega arith, zeros_below n)
 
--- the groups are as many as they are to be
+-- the number of groups is right
 pub count_fits : (w n : ℕ) → 0 < w → (8 * n ≤ group_count w n * w) × (group_count w n * w < 8 * n + w)
 count_fits w n some =
     let whole = div-add-mod' (8 * n + (w - 1)) w in
@@ -60,7 +60,7 @@ pub text_of_grouping : (w : ℕ) (symbols bytes values : List ℕ) → 0 < w →
 unfolding text_in_groups
 text_of_grouping w symbols bytes values some g = ap (map (slice_index symbols)) (one_grouping w bytes values _ some g (grouping_of w bytes some))
 
--- where the text is that of the bytes, its numbers are theirs
+-- if the text spells the bytes, its numbers are those of their groups
 pub grouping_of_text : (w : ℕ) (symbols bytes values text : List ℕ) → IsBase w symbols → AllBelowBase (2 ^ w) values → text ≡ map (slice_index symbols) values → text ≡ text_in_groups w symbols bytes → IsGrouping w bytes values
 unfolding text_in_groups
 grouping_of_text w symbols bytes values text base below is e =
@@ -89,7 +89,7 @@ same_bytes_from_groups w symbols a b base ha hb e =
 
 -- ---- writing
 
--- the groups that are out, and the bits that fill none yet, are these bits
+-- the groups that were appended, and the bits that do not fill a group yet, are these bits
 pub record IsGrouped (w : ℕ) (symbols start out b : List ℕ) (held rest : ℕ) : Type 0 where
   pub values : List ℕ
   pub below : AllBelowBase (2 ^ w) values
@@ -156,7 +156,7 @@ room_for_group {w} {symbols} {start} {out} {b} {held} {rest} n g some fits more 
     let product : suc (length g.values) * w ≤ 8 * n + (w - 1) = omega (arith, long.1) in
     omega (arith, long.0, le-div (suc (length g.values)) (8 * n + (w - 1)) w some product)
 
--- nothing is held
+-- no bits are left over
 pub all_grouped : {w : ℕ} {symbols start out : List ℕ} {held rest : ℕ} (bytes : List ℕ) → IsGrouped w symbols start out (flat_map (bits 8) bytes) held rest → 0 < w → held ≡ 0 → out ≡ start ++ text_in_groups w symbols bytes
 unfolding bits
 all_grouped {w} {symbols} {start} {out} {held} {rest} bytes g some none =

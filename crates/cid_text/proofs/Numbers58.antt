@@ -26,7 +26,7 @@ number_split b (suc n) d ds two e = let f = e ∙ lowest_first b (suc n) two (om
 
 -- ---- one digit of a product
 
--- so many times a number, and what is carried: its lowest digit, and the others
+-- `times` times a number plus what is carried: its lowest digit, and the others
 pub product_parts : (b times m carry x : ℕ) → 2 ≤ b → x ≡ m % b * times + carry → ((m * times + carry) % b ≡ x % b) × ((m * times + carry) / b ≡ m / b * times + x / b)
 product_parts b times m carry x two is =
     let low = mod_below x b (omega arith) in

@@ -1,4 +1,4 @@
--- At most one fault stands in a text, and none in that of a CID.
+-- A text has at most one fault, and a text of a CID has none.
 use Rattle.std.proofs.Common.{◌≡◌, inl, inr, ℕ, ◌+◌, ◌*◌, ◌%◌, ◌≤◌, List, ◌∷◌, length, replicate, refl, sym, ap, ◌∙◌, subst, arith, length-append, slice_index, flat_map}
 use Rattle.std.proofs.lemmas.List.{length-map}
 use Rattle.ipld_tree.specs.Cid.{CidParts, cid_bytes}

@@ -115,7 +115,7 @@ same_base _ _ e = absurd (omega (arith, e))
 
 -- ---- one CID a text
 
--- bytes of one text are the same, where in base58btc no zero byte stands first
+-- the same text spells the same bytes, if in base58btc the first byte is not zero
 pub same_bytes_in : (base : Base) (text a b : List ℕ) → IsInBytes base text a → IsInBytes base text b → a ≡ b
 same_bytes_in bases.Lower16 text a b h k = same_bytes_from_groups 4 lower_16 a b base_lower_16 h.are_bytes k.are_bytes (sym h.is ∙ k.is)
 same_bytes_in bases.Lower32 text a b h k = same_bytes_from_groups 5 lower_32 a b base_lower_32 h.are_bytes k.are_bytes (sym h.is ∙ k.is)
@@ -293,6 +293,6 @@ read_bitcoin_58 text (Err faults.TooLong) few h = absurd h.1
 read_bitcoin_58 text (Err (faults.InvalidCid f)) few h = absurd h.1
 read_bitcoin_58 text (Err _) few h = (λ c k. h.0 (cid_bytes c) k.is, (few, h.1))
 
--- bytes that are no CID
+-- bytes that are not a CID
 pub no_cid : (base : Base) (text b : List ℕ) (f : CidError) → (length text ≤ 172) × IsInBytes base text b → ¬ IsCid b × IsFault f b → ((c : CidParts) → IsTextIn base text c → ⊥) × IsBytesFault base (faults.InvalidCid f) text
 no_cid base text b f r h = (λ c k. h.0 (c, k.valid, same_bytes_in base text b (cid_bytes c) r.1 (in_bytes_of_cid k)), (r.0, (b, r.1, h.1)))

@@ -1,4 +1,4 @@
--- What makes symbols an alphabet, as tests that compute.
+-- What makes symbols an alphabet, as computable tests.
 use Rattle.std.specs.Prelude.{◌≡◌, ℕ, zero, suc, ◌<◌, ◌≤◌, ◌^◌, ◌==◌, Bool, true, not, ◌&&◌, List, length, slice_index, IsTrue}
 use Rattle.std.specs.List.{AllByRecursion}
 
@@ -7,11 +7,11 @@ abbrev pub all_below : (ℕ → Bool) → ℕ → Bool
 all_below p zero = true
 all_below p (suc n) = p n && all_below p n
 
--- the symbols before place i are others than the one there
+-- the symbol at index i differs from those before it
 abbrev pub is_new : List ℕ → ℕ → Bool
 is_new symbols i = all_below (λ j. not (slice_index symbols j == slice_index symbols i)) i
 
--- so many symbols, no two the same
+-- there are n symbols, no two the same
 abbrev pub is_alphabet : ℕ → List ℕ → Bool
 is_alphabet n symbols = (length symbols == n) && all_below (is_new symbols) n
 
@@ -25,6 +25,6 @@ pub record IsBase (w : ℕ) (symbols : List ℕ) : Type 0 where
 abbrev pub AreBytes : List ℕ → Type 0
 AreBytes = AllByRecursion (λ b. b < 256)
 
--- the symbol stands nowhere in the alphabet
+-- the symbol is not in the alphabet
 abbrev pub IsNoSymbol : List ℕ → ℕ → Type 0
 IsNoSymbol symbols s = (i : ℕ) → i < length symbols → ¬ (slice_index symbols i ≡ s)

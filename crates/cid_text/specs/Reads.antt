@@ -1,4 +1,4 @@
--- What reading a text in one base answers.
+-- What reading a text in one base returns.
 use Rattle.std.specs.Prelude.{◌≡◌, ◌≢◌, ℕ, ◌*◌, ◌%◌, ◌^◌, ◌<◌, ◌≤◌, List, ◌∷◌, ◌++◌, length, Result, MatchResult, Contains, map, slice_index, replicate, flat_map}
 use Rattle.arrayvec.specs.ArrayVec.{ArrayVec}
 use Rattle.cid_text.specs.Rfc4648.{bits, text_in_groups}
@@ -8,11 +8,11 @@ use Rattle.cid_text.specs.Alphabets.{AreBytes, IsNoSymbol}
 use Rattle.cid_text.specs.declared.error.CidTextError.{CidTextError}
 use Rattle.cid_text.specs.declared.error.CidTextError.TheVariants.{InvalidCharacter, InvalidLength, TrailingBits, LeadingZero}
 
--- a character of the text is none of the symbols
+-- a character of the text is not among the symbols
 abbrev pub HasOtherCharacter : List ℕ → List ℕ → Type 0
 HasOtherCharacter symbols text = (s : ℕ) × Contains text s × IsNoSymbol symbols s
 
--- after the last whole byte of a text of these symbols stand such bits, fewer than w
+-- after the last whole byte of a text of these symbols there are the bits `last`, fewer than w
 pub record EndsIn (w : ℕ) (symbols text last : List ℕ) : Type 0 where
   pub values : List ℕ
   pub below : AllBelowBase (2 ^ w) values
@@ -21,7 +21,7 @@ pub record EndsIn (w : ℕ) (symbols text last : List ℕ) : Type 0 where
   pub same : flat_map (bits w) values ≡ flat_map (bits 8) bytes ++ last
   pub few : length last < w
 
--- why a text is that of no bytes in groups of w bits: the end is looked at where each character
+-- why a text does not spell bytes in groups of w bits: its end is checked only if each character
 -- before it is a symbol
 abbrev pub IsGroupFault : ℕ → List ℕ → CidTextError → List ℕ → Type 0
 IsGroupFault w symbols InvalidCharacter text = HasOtherCharacter symbols text
@@ -31,36 +31,36 @@ IsGroupFault w symbols TrailingBits text = (last : List ℕ) × EndsIn w symbols
     × (last ≢ replicate (length last) 0)
 IsGroupFault w symbols _ text = ⊥
 
--- The text is read exactly where it is that of bytes in groups of w bits.
+-- A text is read exactly if it spells bytes in groups of w bits.
 abbrev pub ReadsGroups : ℕ → List ℕ → List ℕ → Result (ArrayVec ℕ) CidTextError → Type 0
 ReadsGroups w symbols text result = MatchResult result
     (λ v. AreBytes v.items × (text ≡ text_in_groups w symbols v.items))
     (λ e. ((b : List ℕ) → text ≢ text_in_groups w symbols b) × IsGroupFault w symbols e text)
 
--- the symbol of zero, 1, stands first
+-- the first character is 1, the symbol of zero
 abbrev pub BeginsWith1 : List ℕ → Type 0
 BeginsWith1 text = (rest : List ℕ) × (text ≡ 49 ∷ rest)
 
--- why a text is that of no bytes in base58btc, of which the first is not zero
+-- why a text does not spell bytes in base58btc that begin with a byte other than zero
 abbrev pub Is58Fault : CidTextError → List ℕ → Type 0
 Is58Fault InvalidCharacter text = HasOtherCharacter symbols_58 text × ¬ BeginsWith1 text
 Is58Fault LeadingZero text = BeginsWith1 text
 Is58Fault _ text = ⊥
 
--- the text is that of these numbers in base58btc, which write n
+-- the text spells these digits in base58btc, and they are those of n
 pub record Writes58 (text values : List ℕ) (n : ℕ) : Type 0 where
   pub below : AllBelowBase 58 values
   pub is : text ≡ map (slice_index symbols_58) values
   pub number : n ≡ number_from_digits 58 values
 
--- the number that the text writes is read, or a character is none of the symbols
+-- the number that the text spells is read, or a character is not among the symbols
 abbrev pub ReadsDigits58 : List ℕ → Result (ArrayVec ℕ) CidTextError → Type 0
 ReadsDigits58 text result = MatchResult result
     (λ v. AllBelowBase 256 v.items × (length v.items ≤ 346) × ((values : List ℕ) × (n : ℕ) × Writes58 text values n
     × AreDigits 256 n v.items))
     (λ e. (e ≡ InvalidCharacter) × HasOtherCharacter symbols_58 text)
 
--- The text is read exactly where it is that of such bytes in base58btc.
+-- A text is read exactly if it spells such bytes in base58btc.
 abbrev pub Reads58 : List ℕ → Result (ArrayVec ℕ) CidTextError → Type 0
 Reads58 text result = MatchResult result
     (λ v. AreBytes v.items × BeginsAboveZero v.items × (text ≡ text_in_58 v.items))

@@ -1,13 +1,13 @@
-//! The bases in which a CID is read.
+//! The bases in which the text of a CID is read.
 
 /// A base of multibase.
 #[derive(Clone, Copy, Debug, PartialEq, Eq)]
 pub enum Base {
-    /// Hexadecimal with small letters, after `f`.
+    /// Hexadecimal with lower-case letters, after `f`.
     Lower16,
-    /// Base32 with small letters, after `b`.
+    /// Base32 with lower-case letters, after `b`.
     Lower32,
-    /// Base32 with large letters, after `B`.
+    /// Base32 with upper-case letters, after `B`.
     Upper32,
     /// Base58btc, after `z`.
     Bitcoin58,

@@ -14,7 +14,7 @@ use arrayvec::ArrayVec;
 /// The symbols of base58btc.
 const SYMBOLS: &[u8] = b"123456789ABCDEFGHJKLMNPQRSTUVWXYZabcdefghijkmnopqrstuvwxyz";
 
-/// The digits of so many times the number, and `plus` more. The lowest digit stands first.
+/// Returns the digits of `times` times the number, plus `plus`. The lowest digit comes first.
 fn times_plus(base: u32, times: u32, plus: u32, digits: &[u8]) -> ArrayVec<u8, READ_ROOM>
     requires can { CanTimesPlus base times plus digits.now }
     requires room { length digits.now + 2 ≤ 346 }
@@ -38,7 +38,8 @@ fn times_plus(base: u32, times: u32, plus: u32, digits: &[u8]) -> ArrayVec<u8, R
     out
 }
 
-/// The digits of the number that the bytes write, in base 58.
+/// Returns the digits in base 58, the lowest first, of the number whose digits in base 256 are the
+/// bytes.
 fn digits_in_58(bytes: &[u8]) -> ArrayVec<u8, READ_ROOM>
     requires room { 2 * length bytes.now ≤ 139 }
     ensures digits { AreDigits 58 (number_from_digits 256 bytes.now) result.items }
@@ -52,7 +53,7 @@ fn digits_in_58(bytes: &[u8]) -> ArrayVec<u8, READ_ROOM>
     digits
 }
 
-/// Appends the bytes in base58btc. A zero byte that stands first is lost.
+/// Appends the bytes in base58btc. Zero bytes at the front are lost.
 pub fn push_58(bytes: &[u8], out: &mut ArrayVec<u8, LONGEST_WRITTEN>)
     requires room { array_vec_len out.old + 2 * length bytes.now ≤ 139 }
     ensures { out.new.items ≡ out.old.items ++ text_in_58 bytes.now }
@@ -64,7 +65,7 @@ pub fn push_58(bytes: &[u8], out: &mut ArrayVec<u8, LONGEST_WRITTEN>)
     }
 }
 
-/// The digits in base 256 of the number that the text writes.
+/// Returns the digits in base 256, the lowest first, of the number that the text spells.
 fn digits_of_58(text: &[u8]) -> Result<ArrayVec<u8, READ_ROOM>, CidTextError>
     requires room { length text.now ≤ 172 }
     ensures { ReadsDigits58 text.now result }
@@ -79,7 +80,7 @@ fn digits_of_58(text: &[u8]) -> Result<ArrayVec<u8, READ_ROOM>, CidTextError>
     Ok(digits)
 }
 
-/// The digits, the highest first.
+/// Returns the digits in reverse: the highest first.
 fn reversed(digits: &[u8]) -> ArrayVec<u8, READ_ROOM>
     requires { length digits.now ≤ 346 }
     ensures { result.items ≡ reverse digits.now }
@@ -92,7 +93,7 @@ fn reversed(digits: &[u8]) -> ArrayVec<u8, READ_ROOM>
     out
 }
 
-/// Whether the digit zero stands first.
+/// Returns whether the first digit is zero.
 fn begins_with_zero(text: &[u8]) -> bool
     ensures { MatchBool result ((rest : List ℕ) × (text.now ≡ 49 ∷ rest))
         ((rest : List ℕ) → text.now ≢ 49 ∷ rest) }
@@ -103,7 +104,7 @@ fn begins_with_zero(text: &[u8]) -> bool
     }
 }
 
-/// The bytes that the text is of, without a zero byte first.
+/// Returns the bytes that the text spells. Their first byte is not zero.
 pub fn read_58(text: &[u8]) -> Result<ArrayVec<u8, READ_ROOM>, CidTextError>
     requires room { length text.now ≤ 172 }
     ensures { Reads58 text.now result }

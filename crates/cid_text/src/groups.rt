@@ -10,19 +10,19 @@ use crate::error::CidTextError;
 use crate::symbols::place_of;
 use arrayvec::ArrayVec;
 
-/// The greatest number of characters of a CID that is written, with the prefix.
+/// The most characters of a CID that is written, with the prefix.
 pub const LONGEST_WRITTEN: usize = 139;
 
-/// The room for what is read of at most 172 characters.
+/// The room for what is read from at most 172 characters.
 pub const READ_ROOM: usize = 346;
 
-/// Appends the bytes in groups of so many bits, each as the symbol at its place.
+/// Appends the bytes in groups of `width` bits. Each group is the symbol at that index.
 fn push_groups(width: u32, symbols: &[u8], bytes: &[u8], out: &mut ArrayVec<u8, LONGEST_WRITTEN>)
     requires base { IsBase width symbols.now }
     requires room { array_vec_len out.old + group_count width (length bytes.now) ≤ 139 }
     ensures { out.new.items ≡ out.old.items ++ text_in_groups width symbols.now bytes.now }
 {
-    // The bits that fill no group yet.
+    // The bits that do not fill a group yet.
     let mut rest = 0;
     let mut held = 0;
     for &byte in bytes {
@@ -72,7 +72,7 @@ pub fn push_32(symbols: &[u8], bytes: &[u8], out: &mut ArrayVec<u8, LONGEST_WRIT
     push_groups(5, symbols, rest, out);
 }
 
-/// The bytes that the text is of.
+/// Returns the bytes that the text spells.
 #[tactic(auto, using(crate::proofs::GroupReads::other_symbol))]
 pub fn read_groups(
     width: u32,
@@ -84,7 +84,7 @@ pub fn read_groups(
     ensures { ReadsGroups width symbols.now text.now result }
 {
     let mut bytes = ArrayVec::new();
-    // The bits that fill no byte yet.
+    // The bits that do not fill a byte yet.
     let mut rest = 0;
     let mut held = 0;
     for &symbol in text {

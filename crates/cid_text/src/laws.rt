@@ -1,4 +1,4 @@
-//! Laws of the texts, each the contract of a function.
+//! Laws of the texts. Each is the contract of a function.
 
 ghost use Rattle.std.specs.Prelude.{◌≡◌, Ok};
 ghost use Rattle.cid_text.specs.Texts.{TextsTellCids, TextFaultsAreUnique};
@@ -13,13 +13,13 @@ pub fn texts_tell_cids()
     ensures { TextsTellCids }
 {}
 
-/// At most one fault stands in a text, and none in that of a CID. What `cid_from_text` refuses has
-/// one.
+/// A text has at most one fault, and the text of a CID has none. A text that `cid_from_text`
+/// rejects has one.
 pub fn text_faults()
     ensures { TextFaultsAreUnique }
 {}
 
-/// What was written is read back.
+/// A CID that was written is read back.
 #[tactic(auto, using(crate::proofs::Texting::read_back))]
 pub fn texts_are_read_back(cid: &Cid) -> Result<Cid, CidTextError>
     ensures { result ≡ Ok cid.now }

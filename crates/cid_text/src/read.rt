@@ -1,4 +1,4 @@
-//! The CID of a text.
+//! Reading a CID from its text.
 
 ghost use Rattle.cid_text.specs.Texts.{ReadsIn, ReadsCidIn, ReadsCidText, IsOfVersion};
 
@@ -10,10 +10,10 @@ use crate::symbols::split_character;
 use arrayvec::ArrayVec;
 use ipld_tree::Cid;
 
-/// The greatest number of characters of a CID, without a prefix.
+/// The most characters of a CID, without a prefix.
 const LONGEST_READ: usize = 172;
 
-/// The bytes of which this is the text in the base.
+/// Returns the bytes that the text spells in the base.
 fn read_in(base: Base, text: &[u8]) -> Result<ArrayVec<u8, READ_ROOM>, CidTextError>
     ensures { ReadsIn base text.now result }
 {
@@ -28,7 +28,7 @@ fn read_in(base: Base, text: &[u8]) -> Result<ArrayVec<u8, READ_ROOM>, CidTextEr
     }
 }
 
-/// The CID of whose bytes this is the text in the base.
+/// Returns the CID whose bytes the text spells in the base.
 fn cid_in(base: Base, text: &[u8]) -> Result<Cid, CidTextError>
     ensures { ReadsCidIn base text.now result }
 {
@@ -41,7 +41,7 @@ fn cid_in(base: Base, text: &[u8]) -> Result<Cid, CidTextError>
     }
 }
 
-/// The CID, where it is of this version.
+/// Returns the CID if it has this version.
 fn of_version(version: u64, read: Result<Cid, CidTextError>) -> Result<Cid, CidTextError>
     ensures { IsOfVersion version read result }
 {
@@ -52,7 +52,7 @@ fn of_version(version: u64, read: Result<Cid, CidTextError>) -> Result<Cid, CidT
     }
 }
 
-/// The CID of the text: of version 0 in base58btc, and of version 1 after the prefix of its base.
+/// Reads the text of a CID: version 0 in base58btc, or version 1 after the prefix of its base.
 #[tactic(auto, using(crate::proofs::Texting::no_characters))]
 pub fn cid_from_text(text: &[u8]) -> Result<Cid, CidTextError>
     ensures { ReadsCidText text.now result }

@@ -3,7 +3,7 @@
 ghost use Rattle.std.specs.Prelude.{◌≡◌, ◌<◌, ◌≤◌, [], ◌∷◌, length, slice_index, MatchOption};
 ghost use Rattle.cid_text.specs.Alphabets.{IsNoSymbol};
 
-/// The place of the symbol.
+/// Returns the index of the symbol, or `None` if it is not in the alphabet.
 pub fn place_of(symbols: &[u8], symbol: u8) -> Option<u8>
     requires { length symbols.now ≤ 256 }
     ensures { MatchOption result (IsNoSymbol symbols.now symbol)
@@ -17,7 +17,7 @@ pub fn place_of(symbols: &[u8], symbol: u8) -> Option<u8>
     None
 }
 
-/// The first character, and the others.
+/// Splits the text into its first character and the others, or returns `None` if it is empty.
 pub fn split_character(text: &[u8]) -> Option<(u8, &[u8])>
     ensures { MatchOption result (text.now ≡ []) (λ p. text.now ≡ p.0 ∷ p.1.now) }
 {

@@ -1,4 +1,4 @@
-//! A CID as text.
+//! Writing a CID as text.
 
 ghost use Rattle.std.specs.Prelude.{◌≡◌};
 ghost use Rattle.cid_text.specs.Alphabets.{AreBytes};
@@ -12,14 +12,15 @@ use ipld_tree::Cid;
 /// The characters of a CID, all of them ASCII.
 pub type CidText = ArrayVec<u8, LONGEST_WRITTEN>;
 
-/// Any bytes are below 256: for the proof alone.
+/// Does nothing. The contract says that bytes are below 256, for the proof.
 fn are_bytes(bytes: &[u8])
     ensures { AreBytes bytes.now }
 {
     let _bytes = bytes;
 }
 
-/// The text of the CID: base32 with small letters after `b`, and of version 0 base58btc.
+/// Returns the text of the CID: version 1 in base32 with lower-case letters after `b`, and version
+/// 0 in base58btc.
 pub fn cid_text(cid: &Cid) -> CidText
     ensures text { result.items ≡ cid_text cid.now }
     ensures told { IsTextOf result.items cid.now }

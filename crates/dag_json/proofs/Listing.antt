@@ -30,7 +30,7 @@ joined_push (u ∷ us) t =
     ap (λ x. u ++ x) (flat_map-append (λ v. 44 ∷ v) us (t ∷ []) ∙ ap (λ x. flat_map (λ v. 44 ∷ v) us ++ x) (append-nil (44 ∷ t)))
     ∙ sym (append_assoc u (flat_map (λ v. 44 ∷ v) us) (44 ∷ t))
 
--- one more text, after a comma where it is not the first
+-- one more text, after a comma unless it is the first
 pub first_out : (start out new : List ℕ) (texts : List (List ℕ)) (b : Bool) (t : List ℕ) → AreOut start out texts b → b ≡ true → new ≡ out ++ t → AreOut start new (texts ++ t ∷ []) false
 first_out start out new texts b t g h e = record {
   is =

@@ -84,7 +84,7 @@ items_done values i items past from =
 
 -- ---- entries
 
--- what is read of the members from a place on, where such were seen, is what is read of all
+-- what is read from the members from an index on, after those seen, is what is read from all
 abbrev pub MembersFrom : List JsonMember → ℕ → List IpldEntry → List KeyAndTree → Type 0
 MembersFrom members i entries seen = ((ps : Read (List KeyAndTree)) → ReadsMembers seen (members_view (drop i members)) ps → ReadsMembers [] (members_view members) ps)
     × (ordered_entries (pairs_of entries) ≡ ordered_entries seen)

@@ -21,7 +21,7 @@ before_trans : (k l m : List ℕ) → before k l ≡ true → before l m ≡ tru
 unfolding before
 before_trans k l m h g = ap is_lt (nat_list_cmp_total.trans k l m (less (bytes_cmp k l) h) (less (bytes_cmp l m) g))
 
--- of two other keys one stands before the other
+-- of two different keys, one is before the other
 one_before : (k l : List ℕ) → (bytes_cmp k l ≡ Equal → ⊥) → ((before k l ≡ true) × (before l k ≡ false)) ⊎ ((before k l ≡ false) × (before l k ≡ true))
 unfolding before
 one_before k l apart = by (bytes_cmp k l) refl
@@ -43,7 +43,7 @@ cases : (b : Bool) → (b ≡ true) ⊎ (b ≡ false)
 cases true = inl refl
 cases false = inr refl
 
--- the first of two goes in before the other, whichever goes in first
+-- two entries put in either order give the same result
 put_both : (p q : Member) (ms : List Member) → before p.0 q.0 ≡ true → before q.0 p.0 ≡ false → put_member p (put_member q ms) ≡ put_member q (put_member p ms)
 put_both p q [] h g = put_here p q [] h ∙ sym (put_later q p [] g)
 put_both p q (m ∷ ms) h g = by (cases (before q.0 m.0)) (cases (before p.0 m.0)) (put_both p q ms h g)
@@ -100,7 +100,7 @@ unfolding before
 first_put p [] h = refl
 first_put p (q ∷ qs) h = put_here p (q.0, dag_json q.1) (members qs) (ap is_lt h.0)
 
--- a map's entries in the order of bytes are its pairs as they stand there
+-- a map's entries in the order of bytes are its pairs in the order that they have there
 pub sorted_members : (ps : List (List ℕ × Tree)) → IsStrictlySortedBy bytes_cmp (keys_of ps) → by_bytes (entry_texts (ordered_entries ps)) ≡ members ps
 unfolding dag_json IsStrictlySortedBy
 sorted_members [] h = refl

@@ -118,7 +118,7 @@ text_of_mapping es = ap map_text (same_order (entry_texts es) ∙ ap in_order (t
 abbrev pub sep : Bool → List ℕ
 sep c = cond c (44 ∷ []) []
 
--- the tokens of the value are printed as its text, after a comma where a value stands before
+-- the tokens of the value are printed as its text, after a comma if a value comes before it
 abbrev pub Prints : Json → List ℕ → Type 0
 Prints j said = (c : Bool) (rest : List Token) → print_from c (json_tokens j ++ rest) ≡ sep c ++ (said ++ print_from true rest)
 

@@ -1,4 +1,4 @@
--- The key `/` among a map's entries, in whichever order they stand.
+-- The key `/` among a map's entries, in any order.
 use Rattle.std.proofs.Common.{◌≡◌, ℕ, List, [], ◌∷◌, Bool, true, false, cond, ◌||◌, codes, refl, sym, ap, ◌∙◌, string_bytes, bytes_eq}
 use Rattle.ipld_tree.specs.Key.{comes_before}
 use Rattle.ipld_tree.specs.Tree.{Tree, Entries, no_entries, entry, insert, ordered_entries}
@@ -7,7 +7,7 @@ use Rattle.ipld_tree.proofs.Trees.{IpldEntry}
 use Rattle.dag_json.specs.DagJson.{has_reserved_key, entries_reserved}
 use Rattle.dag_json.proofs.Slots.{or_swap}
 
--- whether the key is `/`, or one stands in the value
+-- whether the key is `/`, or the value has a key `/`
 abbrev pub entry_reserved : List ℕ → Tree → Bool
 entry_reserved k t = bytes_eq k (codes "/") || has_reserved_key t
 

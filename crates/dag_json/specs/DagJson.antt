@@ -14,8 +14,8 @@ use Rattle.cid_text.specs.Texts.{text_of_form}
 abbrev pub digit_16 : ℕ → ℕ
 digit_16 n = slice_index (codes "0123456789abcdef") n
 
--- A byte of a text (RFC 8259, section 7): after a backslash (92) stand a quote, a backslash, and b, t,
--- n, f or r for what they name; of other control characters u00 and two digits of base 16.
+-- A byte of a text (RFC 8259, section 7). After a backslash (92): a quote, a backslash, or the
+-- letter b, t, n, f or r for a control; for other controls, u00 and two digits of base 16.
 abbrev pub escaped : ℕ → List ℕ
 escaped b =
     if b == 34 then 92 ∷ 34 ∷ []
@@ -34,7 +34,7 @@ json_text s = 34 ∷ (flat_map escaped s ++ 34 ∷ [])
 
 -- ---- lists and maps
 
--- the texts, a comma between
+-- the texts, with commas between them
 abbrev pub joined : List (List ℕ) → List ℕ
 joined [] = []
 joined (t ∷ ts) = t ++ flat_map (λ u. 44 ∷ u) ts
@@ -43,13 +43,13 @@ joined (t ∷ ts) = t ++ flat_map (λ u. 44 ∷ u) ts
 abbrev pub Member : Type 0
 Member = List ℕ × List ℕ
 
--- put into its place by the bytes of the keys
+-- the member put into its place in the order of the bytes of the keys
 abbrev pub put_member : Member → List Member → List Member
 put_member p [] = p ∷ []
 put_member p (q ∷ qs) = if is_lt (bytes_cmp p.0 q.0) then p ∷ q ∷ qs else q ∷ put_member p qs
 
--- in the order of the bytes of the keys, as DAG-JSON has it: not that of DAG-CBOR, in which shorter
--- keys stand first
+-- the members in the order of the bytes of the keys, as in DAG-JSON; in DAG-CBOR, shorter keys come
+-- first
 abbrev pub by_bytes : List Member → List Member
 by_bytes [] = []
 by_bytes (p ∷ ps) = put_member p (by_bytes ps)
@@ -74,7 +74,7 @@ boolean_text true = codes "true"
 abbrev pub bytes_text : List ℕ → List ℕ
 bytes_text b = codes "{\"/\":{\"bytes\":\"" ++ (encode_of standard_no_pad b ++ codes "\"}}")
 
--- a link by the text of its CID
+-- a link as the text of its CID
 abbrev pub link_text : List ℕ → List ℕ
 link_text cid = codes "{\"/\":\"" ++ (text_of_form cid ++ codes "\"}")
 
@@ -97,7 +97,7 @@ unfoldable mutual
   entry_texts no_entries = []
   entry_texts (entry k t es) = (k, dag_json t) ∷ entry_texts es
 
--- ---- what looks like a link or like bytes
+-- ---- maps that look like a link or like bytes
 
 -- whether a map in the tree has the key `/`
 abbrev mutual
@@ -121,6 +121,6 @@ abbrev mutual
 
 -- ---- what the calls do
 
--- the text was appended, where the call succeeds
+-- the text was appended, if the call succeeds
 abbrev pub Pushes : {A E : Type 0} → List ℕ → List ℕ → Result A E → List ℕ → Type 0
 Pushes said old result new = OnOk result (new ≡ old ++ said)

@@ -1,4 +1,5 @@
--- What data a text of DAG-JSON is, or why it is none (DAG-JSON specification, over RFC 8259).
+-- The data that a text of DAG-JSON means, or why it has none (DAG-JSON specification, over RFC
+-- 8259).
 use Rattle.std.specs.Prelude.{◌≡◌, ◌⊎◌, ℕ, suc, zero, ℤ, pos, negsuc, ◌^◌, ◌==◌, ◌≤◌, ⊤, nat_lt, nat_le, Bool, true, false, ◌&&◌, ◌||◌, List, [], ◌∷◌, codes, IsUtf8, if◌then◌else◌, Option, Some, None, Result, Ok, Err, MatchResult, MatchBool, bytes_eq}
 use Rattle.std.specs.Char.{is_ascii_digit}
 use Rattle.std.specs.Str.Parse.{signed_digits_value}
@@ -19,7 +20,7 @@ use Rattle.cid_text.specs.declared.error.CidTextError.{CidTextError}
 use Rattle.dag_json.specs.declared.error.DagJsonError.{DagJsonError}
 use Rattle.dag_json.specs.declared.error.DagJsonError.TheVariants.{NoText, NoJson, TrailingData, TooDeep, Float, OutOfRange, RepeatedKey, ReservedKey, NoCid, NoBase64}
 
--- what is read, or why it is none
+-- what is read, or why nothing is read
 abbrev pub Read : Type 0 → Type 0
 Read A = Result A DagJsonError
 
@@ -33,7 +34,7 @@ abbrev pub are_digits : List ℕ → Bool
 are_digits [] = true
 are_digits (c ∷ cs) = is_ascii_digit c && are_digits cs
 
--- digits alone, after a minus (45) or none: in any other number a fraction or an exponent follows
+-- digits only, after an optional minus (45); any other number has a fraction or an exponent
 abbrev pub is_whole : List ℕ → Bool
 is_whole [] = false
 is_whole (c ∷ []) = is_ascii_digit c
@@ -52,13 +53,13 @@ number_data s =
 
 -- ---- links and bytes
 
--- the text of a CID, as any that `cid_text` reads
+-- the text of a CID, in any form that `cid_text` reads
 abbrev pub ReadsLinkText : List ℕ → Read Tree → Type 0
 ReadsLinkText s r = MatchResult r
     (λ t. (c : CidParts) × IsTextOf s c × (t ≡ link (cid_bytes c)))
     (λ e. (f : CidTextError) × (e ≡ NoCid f) × ((c : CidParts) → ¬ IsTextOf s c) × IsTextFault f s)
 
--- what base64 without padding gives (RFC 4648, section 4)
+-- the result of decoding base64 without padding (RFC 4648, section 4)
 abbrev pub decoded_data : Result (List ℕ) DecodeError → Read Tree
 decoded_data (Ok b) = Ok (bytes b)
 decoded_data (Err e) = Err NoBase64
@@ -66,7 +67,7 @@ decoded_data (Err e) = Err NoBase64
 abbrev pub bytes_data : List ℕ → Read Tree
 bytes_data s = decoded_data (decode_of standard_no_pad s)
 
--- whether the key `/` is there
+-- whether the key `/` is among the members
 abbrev pub has_slash : Members → Bool
 has_slash no_members = false
 has_slash (member k j ms) = bytes_eq k (codes "/") || has_slash ms
@@ -87,15 +88,15 @@ ReadsSlashed (json.string s) r = ReadsLinkText s r
 ReadsSlashed (json.object ms) r = ReadsBytes ms r
 ReadsSlashed _ r = r ≡ Err ReservedKey
 
--- a map that has the key `/` and is neither is refused
+-- a map that has the key `/`, and is neither a link nor bytes, is refused
 abbrev pub ReadsReserved : Members → Read Tree → Type 0
 ReadsReserved (member k j no_members) r = ReadsSlashed j r
 ReadsReserved _ r = r ≡ Err ReservedKey
 
 -- ---- data
 
--- What is read of a JSON value: the tree, or the first fault in it. Of a map the keys and values that
--- were seen are kept.
+-- What is read from a JSON value: the tree, or the first fault in it. For a map, the keys and
+-- values seen so far are kept.
 abbrev mutual
   pub ReadsData : Json → Read Tree → Type 0
   ReadsData json.null r = r ≡ Ok null
@@ -122,12 +123,12 @@ abbrev mutual
 
 -- ---- texts
 
--- how deep JSON nests at most: 127 lists around bytes
+-- the most levels to which JSON nests: 127 lists around bytes
 abbrev pub most_levels : ℕ
 most_levels = 129
 
--- whether more than the most lists and maps stand open at once, where n more may: what follows
--- a bracket that closes none is not looked at
+-- whether more lists and maps are open at once than may be, if n more may be; nothing is checked
+-- after a bracket that closes nothing
 abbrev pub opens_past : ℕ → List Token → Bool
 opens_past n [] = false
 opens_past zero (Token.begin_object ∷ ts) = true
@@ -138,29 +139,29 @@ opens_past n (Token.end_object ∷ ts) = if n == most_levels then false else ope
 opens_past n (Token.end_array ∷ ts) = if n == most_levels then false else opens_past (suc n) ts
 opens_past n (t ∷ ts) = opens_past n ts
 
--- the value with no token after it
+-- the value, with no token after it
 abbrev pub alone : List Token → Option (Json × List Token) → Read Json
 alone ts None = if opens_past most_levels ts then Err TooDeep else Err NoJson
 alone ts (Some (j, [])) = Ok j
 alone ts (Some (j, t ∷ more)) = Err TrailingData
 
--- the JSON value that the tokens are
+-- the JSON value that the tokens spell
 abbrev pub document_of : List Token → Read Json
 document_of ts = alone ts (value most_levels ts)
 
--- a tree that an untyped read takes within 256 steps
+-- a tree that an untyped read accepts within 256 steps
 abbrev pub within_steps : Read Tree → Read Tree
 within_steps (Ok t) = if nat_le (any_need t) 256 then Ok t else Err TooDeep
 within_steps (Err e) = Err e
 
--- what a JSON value that is a whole text tells, of which an untyped read takes 256 steps at most
+-- what a JSON value that is a whole text means, if an untyped read takes at most 256 steps
 abbrev pub ReadsWhole : Json → Read Tree → Type 0
 ReadsWhole j r = (found : Read Tree) × ReadsData j found × (r ≡ within_steps found)
 
 abbrev pub ReadsTokens : List Token → Read Tree → Type 0
 ReadsTokens ts r = MatchResult (document_of ts) (λ j. ReadsWhole j r) (λ e. r ≡ Err e)
 
--- what is read of a text
+-- what is read from a text
 abbrev pub ReadsJson : List ℕ → Read Tree → Type 0
 ReadsJson s r = (¬ IsUtf8 s × (r ≡ Err NoText)) ⊎ (IsUtf8 s × ReadsTokens (tokens s) r)
 
@@ -168,7 +169,7 @@ ReadsJson s r = (¬ IsUtf8 s × (r ≡ Err NoText)) ⊎ (IsUtf8 s × ReadsTokens
 abbrev pub TextsTellData : Type 0
 TextsTellData = (s : List ℕ) (r q : Read Tree) → ReadsJson s r → ReadsJson s q → r ≡ q
 
--- bytes, and those of links, are numbers below 256
+-- all bytes, also those of links, are numbers below 256
 abbrev mutual
   pub HasBytes : Tree → Type 0
   HasBytes null = ⊤
@@ -188,7 +189,7 @@ abbrev mutual
   EntriesHaveBytes no_entries = ⊤
   EntriesHaveBytes (entry k t es) = HasBytes t × EntriesHaveBytes es
 
--- a block's tree, within the steps of a read, without a map that has the key `/`
+-- the tree of a block, within the steps of a read, without a map that has the key `/`
 pub record IsTellable (t : Tree) : Type 0 where
   pub well_formed : IsTree t
   pub spellable : IsSpellable t
@@ -196,6 +197,6 @@ pub record IsTellable (t : Tree) : Type 0 where
   pub within : any_need t ≤ 256
   pub unreserved : has_reserved_key t ≡ false
 
--- what is written of such a tree is read back as that tree
+-- such a tree is read back from what is written for it
 abbrev pub TextsAreReadBack : Type 0
 TextsAreReadBack = (t : Tree) → IsTellable t → ReadsJson (dag_json t) (Ok t)

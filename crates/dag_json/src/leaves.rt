@@ -1,4 +1,4 @@
-//! What holds no other data.
+//! Data that holds no other data.
 
 ghost use Rattle.ipld_tree.specs.Cid.{cid_bytes};
 ghost use Rattle.std.specs.Prelude.{◌++◌};
@@ -28,7 +28,7 @@ pub fn push_integer(alloc: Global, value: &i128, out: &mut Vec<u8>) -> Result<()
     out.extend_from_slice(text.as_bytes())
 }
 
-/// Appends a text between two others.
+/// Appends a text between two other texts.
 fn push_between(first: &[u8], text: &[u8], last: &[u8], out: &mut Vec<u8>) -> Result<(), AllocError>
     ensures { Pushes (first.now ++ (text.now ++ last.now)) out.old.items result out.new.items }
 {
@@ -45,7 +45,7 @@ pub fn push_bytes(alloc: Global, bytes: &[u8], out: &mut Vec<u8>) -> Result<(), 
     push_between(b"{\"/\":{\"bytes\":\"", text.as_bytes(), b"\"}}", out)
 }
 
-/// Appends a link by its CID.
+/// Appends a link as the text of its CID.
 pub fn push_link(cid: &Cid, out: &mut Vec<u8>) -> Result<(), AllocError>
     ensures { Pushes (link_text (cid_bytes cid.now)) out.old.items result out.new.items }
 {

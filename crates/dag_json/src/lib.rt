@@ -1,7 +1,7 @@
 //! Data as DAG-JSON.
 //!
-//! A map that has the key `/` looks like a link or like bytes in DAG-JSON: it is written as it is,
-//! since this text is for eyes, and no text of such a map is read.
+//! In DAG-JSON, a map that has the key `/` looks like a link or like bytes. Such a map is written
+//! as it is, because this text is for people to read. No text is read as such a map.
 #![tactic(auto)]
 
 mod error;

@@ -1,4 +1,4 @@
-//! Numbers of JSON that are integers.
+//! Integers among the numbers of JSON.
 
 ghost use Rattle.std.specs.Prelude.{◌≡◌};
 ghost use Rattle.ipld_tree.specs.Tree.{integer};
@@ -6,7 +6,7 @@ ghost use Rattle.dag_json.specs.Reading.{are_digits, is_whole, is_in_range, numb
 
 use crate::error::DagJsonError;
 
-/// Whether all are digits.
+/// Returns whether all bytes are digits.
 fn are_digits(text: &[u8]) -> bool
     ensures { result ≡ are_digits text.now }
 {
@@ -18,7 +18,7 @@ fn are_digits(text: &[u8]) -> bool
     true
 }
 
-/// Whether the number has neither a fraction nor an exponent.
+/// Returns whether the number has neither a fraction nor an exponent.
 fn is_whole(text: &[u8]) -> bool
     ensures { result ≡ is_whole text.now }
 {
@@ -29,14 +29,14 @@ fn is_whole(text: &[u8]) -> bool
     }
 }
 
-/// Whether DAG-CBOR has the integer.
+/// Returns whether DAG-CBOR has the integer.
 fn is_in_range(value: i128) -> bool
     ensures { result ≡ is_in_range value }
 {
     -0x1_0000_0000_0000_0000 <= value && value < 0x1_0000_0000_0000_0000
 }
 
-/// The integer that the number is.
+/// Returns the integer that the number spells.
 pub fn integer_of(text: &str) -> Result<i128, DagJsonError>
     ensures { number_data text.now ≡ read_map integer result }
 {

@@ -1,4 +1,4 @@
-//! Data from a text of JSON.
+//! Reading data from a text of JSON.
 
 ghost use Rattle.std.specs.Prelude.{◌≡◌, ◌≢◌, ◌≤◌, length, Ok, Err, IfOk, IfErr, MatchResult, IsUtf8, if◌then◌else◌};
 ghost use Rattle.std.specs.Str.Lossy.{utf8_valid_len};
@@ -16,14 +16,14 @@ use json::{Error, Reader, Scratch, Token, Value};
 use simdutf8::compat::from_utf8;
 use std::alloc::{AllocError, Global};
 
-/// How deep JSON nests at most: 127 lists around bytes.
+/// The most levels to which JSON nests: 127 lists around bytes.
 const MOST_LEVELS: usize = 129;
 
 /// The steps of an untyped read.
 const MOST_STEPS: u64 = 256;
 
-/// A refusal at this byte of the text, or want of memory where the place was not found. No contract
-/// says where a reader stands, so the place is held to the text.
+/// Returns a refusal at this offset in the text, or out of memory if the offset was not found. No
+/// contract bounds the offset of a reader, so it is limited to the length of the text.
 fn refusal(text: &str, cause: DagJsonError, offset: Result<usize, AllocError>) -> Refusal
     ensures cause { result.cause ≢ DagJsonError.OutOfMemory → result.cause ≡ cause }
     ensures place { result.offset ≤ length text.now }
@@ -47,7 +47,7 @@ fn out_of_memory() -> Refusal
     }
 }
 
-/// Whether more than 129 lists and maps stand open at once.
+/// Returns whether more than 129 lists and maps are open at once.
 fn is_too_deep(alloc: Global, text: &str) -> Result<bool, AllocError>
     ensures { IfOk result (λ b. b ≡ opens_past most_levels (tokens text.now)) }
 {
@@ -74,7 +74,8 @@ fn is_too_deep(alloc: Global, text: &str) -> Result<bool, AllocError>
     }
 }
 
-/// Why the text is no value of JSON within the levels. The reader stopped at this byte.
+/// Returns why the text is not one JSON value within the levels. `stopped` is the offset at which
+/// the reader stopped.
 fn no_document(alloc: Global, text: &str, stopped: usize) -> Refusal
     ensures place { result.offset ≤ length text.now }
     ensures cause { result.cause ≢ DagJsonError.OutOfMemory
@@ -88,7 +89,7 @@ fn no_document(alloc: Global, text: &str, stopped: usize) -> Refusal
     }
 }
 
-/// The one value that the text is.
+/// Reads the one JSON value of the text.
 fn document<'a>(
     alloc: Global,
     text: &'a str,
@@ -115,7 +116,7 @@ fn document<'a>(
     }
 }
 
-/// The data that the value is.
+/// Returns the data that the JSON value means.
 fn whole_data(alloc: Global, text: &str, value: &Value<'_>) -> Result<Ipld, Refusal>
     ensures data { IfOk result
         (λ v. ReadsWhole (value_view value.now) (Ok (tree_of v))) }
@@ -131,7 +132,7 @@ fn whole_data(alloc: Global, text: &str, value: &Value<'_>) -> Result<Ipld, Refu
     }
 }
 
-/// The data that the text is.
+/// Reads the data that the text spells.
 fn data_from_text(alloc: Global, text: &str) -> Result<Ipld, Refusal>
     ensures data { IfOk result (λ v. ReadsTokens (tokens text.now) (Ok (tree_of v))) }
     ensures refused { IfErr result (λ e. e.cause ≢ DagJsonError.OutOfMemory
@@ -143,8 +144,8 @@ fn data_from_text(alloc: Global, text: &str) -> Result<Ipld, Refusal>
     whole_data(alloc, text, &value)
 }
 
-/// The data that the text is, in DAG-JSON. Which byte of the text a refusal names is not said, but for
-/// one that is no UTF-8: that names the first byte of what is none.
+/// Reads the data that the text spells in DAG-JSON. The contract gives the offset of a refusal only
+/// for a text that is not UTF-8: that of the first invalid byte.
 pub fn data_from_json(alloc: Global, text: &[u8]) -> Result<Ipld, Refusal>
     ensures data { IfOk result (λ v. ReadsJson text.now (Ok (tree_of v))) }
     ensures refused { IfErr result (λ e. e.cause ≢ DagJsonError.OutOfMemory

@@ -1,9 +1,9 @@
-//! Where a refusal stands in a text.
+//! The offset of a refusal in a text.
 
 use json::{Reader, Scratch, Token};
 use std::alloc::{AllocError, Global};
 
-/// The byte after so many tokens, where the next one begins.
+/// Returns the offset after the first `tokens` tokens, where the next one begins.
 pub fn offset_behind(alloc: Global, text: &str, tokens: usize) -> Result<usize, AllocError> {
     let mut scratch = Scratch::new(alloc);
     let mut reader = Reader::new(text, &mut scratch)?;
@@ -15,11 +15,11 @@ pub fn offset_behind(alloc: Global, text: &str, tokens: usize) -> Result<usize, 
     Ok(reader.offset())
 }
 
-/// How many lists and maps may stand around a part.
+/// The most lists and maps that may be around a part.
 const MOST_AROUND: usize = 127;
 
-/// The first part of data that stands in more lists and maps than may be. Of a link and of bytes the
-/// tokens are no parts.
+/// Returns the offset of the first part of data that is in more lists and maps than allowed. The
+/// tokens inside a link or bytes are not parts.
 pub fn offset_inside(alloc: Global, text: &str) -> Result<usize, AllocError> {
     let mut scratch = Scratch::new(alloc);
     let mut reader = Reader::new(text, &mut scratch)?;

@@ -1,4 +1,4 @@
-//! Data from JSON.
+//! Reading data from JSON values.
 
 ghost use Rattle.std.specs.Prelude.{◌≡◌, ◌≢◌, ◌↔◌, [], Ok, Err, IfOk, IfErr, IsTrue, List, ℕ, ◌∷◌, ◌++◌, OnOk, string_bytes};
 ghost use Rattle.std.specs.Prelude.{string_cmp};
@@ -28,7 +28,7 @@ fn pass(place: &mut usize, tokens: usize) {
     *place = place.wrapping_add(tokens);
 }
 
-/// A text of its own.
+/// Copies the text into memory of its own.
 fn owned_text(alloc: Global, text: &str) -> Result<String, DagJsonError>
     ensures text { IfOk result (λ s. string_bytes s ≡ text.now) }
     ensures memory { IfErr result (λ e. e ≡ DagJsonError.OutOfMemory) }
@@ -44,7 +44,7 @@ fn push_item(items: &mut Vec<Ipld>, item: Ipld) -> Result<(), DagJsonError>
     items.push(item).map_err(|_| DagJsonError::OutOfMemory)
 }
 
-/// Adds an entry at its place.
+/// Adds an entry at its place, by the order of the keys.
 fn put_entry(
     entries: &mut BTreeMap<String, Ipld>,
     key: String,
@@ -60,7 +60,7 @@ fn put_entry(
     }
 }
 
-/// The link of this text.
+/// Returns the link whose CID has this text.
 fn link_of(text: &str) -> Result<Ipld, DagJsonError>
     ensures { ReadsLinkText text.now (read_map tree_of result) }
 {
@@ -70,7 +70,7 @@ fn link_of(text: &str) -> Result<Ipld, DagJsonError>
     }
 }
 
-/// The bytes of this text.
+/// Returns the bytes that this text spells in base64.
 fn bytes_of(alloc: Global, text: &str) -> Result<Ipld, DagJsonError>
     ensures data { IfOk result (λ v. bytes_data text.now ≡ Ok (tree_of v)) }
     ensures refused { IfErr result
@@ -83,7 +83,7 @@ fn bytes_of(alloc: Global, text: &str) -> Result<Ipld, DagJsonError>
     }
 }
 
-/// Whether the key `/` is there.
+/// Returns whether the key `/` is among the members.
 fn has_slash(members: &[(&str, Value<'_>)]) -> bool
     ensures { result ≡ has_slash (members_view members.now) }
 {
@@ -95,7 +95,7 @@ fn has_slash(members: &[(&str, Value<'_>)]) -> bool
     false
 }
 
-/// The bytes that stand at the key `bytes`.
+/// Returns the bytes at the key `bytes`.
 fn named_bytes(
     alloc: Global,
     key: &str,
@@ -124,7 +124,7 @@ fn named_bytes(
     }
 }
 
-/// The bytes that stand at the key `/`.
+/// Returns the bytes at the key `/`.
 #[tactic(auto, using(crate::proofs::Members::no_bytes))]
 fn slashed_bytes(
     alloc: Global,
@@ -142,7 +142,7 @@ fn slashed_bytes(
     }
 }
 
-/// The link or the bytes that stand at the key `/`.
+/// Returns the link or the bytes at the key `/`.
 fn slashed(alloc: Global, value: &Value<'_>, place: &mut usize) -> Result<Ipld, DagJsonError>
     ensures data { IfOk result (λ v. ReadsSlashed (value_view value.now) (Ok (tree_of v))) }
     ensures refused { IfErr result (λ e. e ≢ DagJsonError.OutOfMemory
@@ -163,7 +163,7 @@ fn slashed(alloc: Global, value: &Value<'_>, place: &mut usize) -> Result<Ipld, 
     }
 }
 
-/// What a map is that has the key `/`.
+/// Returns the link or bytes that a map with the key `/` means, or refuses the map.
 #[tactic(auto, using(crate::proofs::Members::no_reserved))]
 fn reserved_of(
     alloc: Global,
@@ -181,8 +181,8 @@ fn reserved_of(
     }
 }
 
-/// What the value is. The tokens before it were passed, and it is passed where it is data; else those
-/// before what is wrong in it.
+/// Returns the data that the JSON value means. The tokens before the value were passed. If the
+/// value is data, its tokens are passed too, and otherwise those before the fault.
 #[cycle(data)]
 pub fn data_of(alloc: Global, value: &Value<'_>, place: &mut usize) -> Result<Ipld, DagJsonError>
     ensures data { IfOk result (λ v. ReadsData (value_view value.now) (Ok (tree_of v))) }
@@ -194,7 +194,7 @@ pub fn data_of(alloc: Global, value: &Value<'_>, place: &mut usize) -> Result<Ip
     Ok(found)
 }
 
-/// What the value is, whose last token is still to be passed.
+/// Returns the data that the value means. Its last token is still to be passed.
 #[cycle(data)]
 fn part_of(alloc: Global, value: &Value<'_>, place: &mut usize) -> Result<Ipld, DagJsonError>
     ensures data { IfOk result (λ v. ReadsData (value_view value.now) (Ok (tree_of v))) }
@@ -211,7 +211,7 @@ fn part_of(alloc: Global, value: &Value<'_>, place: &mut usize) -> Result<Ipld, 
     }
 }
 
-/// The items of a list, but for its last bracket.
+/// Reads the items of a list, without passing the last bracket.
 #[cycle(data)]
 fn items_of(
     alloc: Global,
@@ -232,7 +232,7 @@ fn items_of(
     Ok(items)
 }
 
-/// A map, a link or bytes, but for the last brace.
+/// Reads a map, a link or bytes, without passing the last brace.
 #[cycle(data)]
 fn map_of(
     alloc: Global,
@@ -250,7 +250,7 @@ fn map_of(
     Ok(Ipld::Map(entries_of(alloc, members, place)?))
 }
 
-/// The entries of a map, but for its last brace.
+/// Reads the entries of a map, without passing the last brace.
 #[cycle(data)]
 fn entries_of(
     alloc: Global,

@@ -1,4 +1,4 @@
-//! The key that DAG-JSON keeps for links and bytes.
+//! The key that DAG-JSON reserves for links and bytes.
 
 ghost use Rattle.std.specs.Prelude.{◌≡◌, ◌||◌, codes};
 ghost use Rattle.std.specs.Str.{bytes_eq};
@@ -9,7 +9,8 @@ ghost use Rattle.dag_json.specs.DagJson.{has_reserved_key, items_reserved, entri
 use ipld_tree::Ipld;
 use std::collections::BTreeMap;
 
-/// Whether a map in the data has the key `/`: its text looks like a link or like bytes.
+/// Returns whether a map in the data has the key `/`. The text of such a map looks like a link or
+/// like bytes.
 #[cycle(reserved)]
 pub fn has_reserved_key(value: &Ipld) -> bool
     ensures { result ≡ has_reserved_key (tree_of value.now) }
@@ -21,7 +22,7 @@ pub fn has_reserved_key(value: &Ipld) -> bool
     }
 }
 
-/// Whether it stands in one of the items.
+/// Returns whether the key `/` is in one of the items.
 #[cycle(reserved)]
 fn items_reserved(items: &[Ipld]) -> bool
     ensures { result ≡ items_reserved (items_of (trees_of items.now)) }
@@ -34,7 +35,7 @@ fn items_reserved(items: &[Ipld]) -> bool
     false
 }
 
-/// Whether it is this key, or stands in this value.
+/// Returns whether this key is `/`, or the key `/` is in this value.
 #[cycle(reserved)]
 fn entry_reserved(key: &str, value: &Ipld) -> bool
     ensures { result ≡ (bytes_eq key.now (codes "/") || has_reserved_key (tree_of value.now)) }
@@ -42,7 +43,7 @@ fn entry_reserved(key: &str, value: &Ipld) -> bool
     key == "/" || has_reserved_key(value)
 }
 
-/// Whether it is one of the keys, or stands in one of the values.
+/// Returns whether one of the keys is `/`, or the key `/` is in one of the values.
 #[cycle(reserved)]
 fn entries_reserved(entries: &BTreeMap<String, Ipld>) -> bool
     ensures { result ≡ entries_reserved (ordered_entries (pairs_of entries.now.entries)) }

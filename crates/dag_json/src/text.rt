@@ -1,11 +1,11 @@
-//! Texts of JSON (RFC 8259).
+//! Writing texts of JSON (RFC 8259).
 
 ghost use Rattle.std.specs.Prelude.{◌≡◌, ◌<◌};
 ghost use Rattle.dag_json.specs.DagJson.{digit_16, escaped, json_text, Pushes};
 
 use std::alloc::AllocError;
 
-/// A digit of base 16.
+/// Returns a digit of base 16.
 fn digit_16(value: u8) -> u8
     requires { value < 16 }
     ensures { result ≡ digit_16 value }
@@ -13,7 +13,7 @@ fn digit_16(value: u8) -> u8
     b"0123456789abcdef"[value as usize]
 }
 
-/// Appends a byte of a text.
+/// Appends a byte of a text, escaped if need be.
 fn push_escaped(byte: u8, out: &mut Vec<u8>) -> Result<(), AllocError>
     ensures { Pushes (escaped byte) out.old.items result out.new.items }
 {
@@ -45,7 +45,7 @@ fn push_escaped(byte: u8, out: &mut Vec<u8>) -> Result<(), AllocError>
     }
 }
 
-/// Appends a text between quotes, by its bytes.
+/// Appends a text between quotes.
 pub fn push_text(text: &[u8], out: &mut Vec<u8>) -> Result<(), AllocError>
     ensures { Pushes (json_text text.now) out.old.items result out.new.items }
 {

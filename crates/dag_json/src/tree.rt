@@ -1,4 +1,4 @@
-//! Data of any kind.
+//! Writing data of any kind.
 
 ghost use Rattle.std.specs.Prelude.{◌≡◌, map, IfOk};
 ghost use Rattle.ipld_tree.specs.Tree.{items_of, mapping, ordered_entries};
@@ -11,7 +11,7 @@ use ipld_tree::Ipld;
 use std::alloc::{AllocError, Global};
 use std::collections::BTreeMap;
 
-/// The data in one line, without a line feed.
+/// Returns the data in one line, without a line feed.
 pub fn dag_json(alloc: Global, value: &Ipld) -> Result<Vec<u8>, AllocError>
     ensures { IfOk result (λ v. v.items ≡ dag_json (tree_of value.now)) }
 {
@@ -56,7 +56,7 @@ fn push_list(alloc: Global, items: &[Ipld], out: &mut Vec<u8>) -> Result<(), All
     Ok(())
 }
 
-/// Appends a map, its keys in the order of their bytes.
+/// Appends a map. Its keys are in the order of their bytes.
 #[cycle(push_data)]
 fn push_map(
     alloc: Global,

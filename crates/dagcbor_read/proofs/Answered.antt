@@ -1,4 +1,4 @@
--- What calls say that answered, or were refused, on a Deserializer that had not failed.
+-- What holds after calls that succeeded, or were refused, on a Deserializer that had not failed.
 use Rattle.std.proofs.Common.{◌≡◌, ℕ, List, ◌++◌, length, append_assoc, ◌∙◌, Global, ◌<◌, ◌-◌, true, false, refl, subst, Option, None, Some, IfSome, Ok, Err}
 use Rattle.std.specs.Cow.{cow_str_bytes}
 use Rattle.std.specs.declared.borrow.CowStr.{CowStr}
@@ -75,7 +75,7 @@ after_some_key E o k c d e h = subst (λ x. d ≡ after_key {E = E} (Ok x) c) e 
 pub after_no_key : (E : Type 0) (o : Option (CowStr Global)) (c d : AccessorState) → o ≡ None → d ≡ after_key {E = E} (Ok o) c → d ≡ c
 after_no_key E o c d e h = subst (λ x. d ≡ after_key {E = E} (Ok x) c) e h
 
--- memory is wanting for a copy of a text of some bytes
+-- memory may run out for a copy of a text that has bytes
 pub copy_lacks : {old new : Reading} {k : List ℕ} → TakesFront (leaf view_text) old k new → 0 < length k → (b : List ℕ) → old.left ≡ Some b → BeginsSomeString 3 b
 copy_lacks {old} {new} {k} h some b l =
     let q = (text_taken k h).taken b l in

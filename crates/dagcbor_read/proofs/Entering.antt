@@ -31,7 +31,7 @@ no_step_told {E} stands {text} {old} {mid} {new} e k h some cause = (no_step_ref
     none (DepthOverflow n) h = sym k.steps ∙ h.none
     none _ h = tt
 
--- no head of the major type stood there
+-- there was no head of the major type
 pub major_entered : {E : Type 0} {old stepped : Reading} (major : ℕ) (name : List ℕ) (new : Reading)
     (e : DecodeError E) → SpentStep old stepped → OfHead e
     → RefusesPlainly (HasMajor major major stepped) (MajorCause name major major) stepped e new

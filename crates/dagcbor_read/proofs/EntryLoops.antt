@@ -23,7 +23,8 @@ use Rattle.dagcbor_heads.proofs.Refusing.{refusal_carried}
 use Rattle.dagcbor_read.proofs.Passing.{or_left, lacks_before}
 
 module _ {S : Type 0} (shape : FieldShape S) (start : S) where
-  -- A map was begun, and entries of it were read, which brought the state to s: the invariant of the loop.
+  -- A map was begun, and entries of it were read, which changed the state to s: the loop's
+  -- invariant.
   pub record MapSoFar (old : DeState) (entries : AccessorState) (s : S) (now : DeState) : Type 0 where
     pub before : AccessorState
     pub mid : DeState
@@ -92,7 +93,7 @@ module _ {S : Type 0} (shape : FieldShape S) (start : S) where
       let fields = one_more_field shape key name (sym is) i.fields at.read at.after is_after r.1 w in
       record { before = i.before; mid = i.mid; enters = i.enters; first = i.first; one = i.one; fields = subst (λ x. FieldsSoFar shape start i.before i.mid after x new) (sym is_next) fields }
 
-  -- Its value was passed over, which was refused: it is no field's.
+  -- No field has the key, and skipping its value was refused.
   pub skip_refused : {old : DeState} {with_key : AccessorState} {key : List ℕ} {s : S} (E B T : Type 0) (mid new : DeState) (e : DecodeError E) → MapAtValue old with_key key s mid → ((t : Tree) → shape.take s key t ≡ Some s) → ((t : Tree) → shape.need key t ≡ any_need t)
       → Call {T = T} (λ old r new. MatchResult r (λ v. ⊤) (λ e. Refuses (record { could = HasFront ignored_item old; lacks = MayLack unless_lent old; borrows = false ≡ true; stands = Anything }) old e new)) mid (Err e) new
       → Refuses (record { could = HasFront (fields_of shape start) old.input; lacks = MayLack (fields_memory shape) old.input; borrows = B; stands = Anything }) old.input e new.input

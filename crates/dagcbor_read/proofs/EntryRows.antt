@@ -98,7 +98,7 @@ module _ {S : Type 0} (shape : FieldShape S) where
 
   -- ---- the loop
 
-  -- some entries were read, which brought the state to s: those after them bring it further
+  -- some entries were read, which changed the state to s; those after them change it further
   pub record FieldsSoFar (start : S) (before : AccessorState) (old : DeState) (now_left : AccessorState) (s : S) (now : DeState) : Type 0 where
     pub sound : now.failed ≡ false
     pub is_map : now_left.is_map ≡ true
@@ -167,7 +167,7 @@ module _ {S : Type 0} (shape : FieldShape S) where
             (r.0, u.1, subst (λ x. PassesEntries r.0 b before.last u.1 x) (sym last) r.1, omega (arith, less, k.some, p.3, r.2), u.5);
       }
 
-  -- none of those that are left
+  -- no entries are taken from those left
   pub no_more_fields : (s : S) (last : Option (List ℕ)) (r : Reading) → TakesFields shape s last 0 r s r
   no_more_fields s last r = record {
     taken = λ b l. (no_entries, b, refl, nothing last, record { well_formed = tt; spellable = tt; is = refl }, refl, omega arith, l);

@@ -45,7 +45,7 @@ module _ {S V : Type 0} (shape : Shape Tree S) (finish : S → Option V) where
       ) in
       subst (λ e. Refuses {E = E} (record { could = HasFront (finishing finish shape) old; lacks = MayLack shape.memory old; borrows = B; stands = Anything }) old e new) (sym message.1) refuses
 
-  -- a part of it is missing, which `?` hands on
+  -- a part of it is missing, which `?` passes on
   pub missing : (B : Type 0) {F A E T : Type 0} (P : T → Type 0) {old new : Reading} {s : S} (result : Result T (DecodeError E)) {error : DecodeError E} → IsErrAnd result (λ y. y ≡ error) → (kept : Name) × (error ≡ Msg kept) → finish s ≡ None
       → (F → A × TakesFront shape old s new) → F → MatchResult result P (λ e. Refuses (record { could = HasFront (finishing finish shape) old; lacks = MayLack shape.memory old; borrows = B; stands = Anything }) old e new)
   missing B {F} {A} {E} {T} P {old} {new} {s} result {error} is message none h fresh = as_refusal P (λ e. Refuses (record { could = HasFront (finishing finish shape) old; lacks = MayLack shape.memory old; borrows = B; stands = Anything }) old e new) result error is (value_unfinished B message none h fresh)
@@ -60,7 +60,7 @@ module _ {S V : Type 0} (shape : Shape Tree S) (finish : S → Option V) where
       (λ front. record { bytes = front.bytes; tree = front.tree; rest = front.rest; left = front.left; front = front.front; accepted = has_state (shape.view front.tree) front.accepted; within = front.within })
       (λ x. x) (λ x. x) (λ b l. (b, l, λ x. x)) (h fresh)
 
-  -- it was not read, which `?` hands on
+  -- it was not read, which `?` passes on
   pub handed_on : (B : Type 0) {F E T : Type 0} (P : T → Type 0) (old new : Reading) (result : Result T (DecodeError E)) (error : DecodeError E) → IsErrAnd result (λ y. y ≡ error) → (F → Refuses (record { could = HasFront shape old; lacks = MayLack shape.memory old; borrows = B; stands = Anything }) old error new)
       → F → MatchResult result P (λ e. Refuses (record { could = HasFront (finishing finish shape) old; lacks = MayLack shape.memory old; borrows = B; stands = Anything }) old e new)
   handed_on B {F} {E} {T} P old new result error is h fresh = as_refusal P (λ e. Refuses (record { could = HasFront (finishing finish shape) old; lacks = MayLack shape.memory old; borrows = B; stands = Anything }) old e new) result error is (not_read B old new {F = F} error h fresh)
@@ -89,7 +89,7 @@ module _ {S V : Type 0} (shape : Shape Tree S) (finish : S → Option V) where
       let back : refuses new.input (Msg is.1.0) = subst (λ now. refuses now (Msg is.1.0)) (sym k.1.1.2) none in
       (tt, subst (λ m. MatchBool m (refuses new.input x) (IsOtherForm e x × (new.input ≡ old.input))) (sym k.1.0) (subst (refuses new.input) (sym is.1.1) back))
 
-  -- it was not read, which `?` hands on
+  -- it was not read, which `?` passes on
   pub held_handed_on : {E T U : Type 0} (state : T → S) (meaning : U → V) (e : EnumState) (old new : DeState) (result : Result U (DecodeError E)) (error : DecodeError E) → IsErrAnd result (λ y. y ≡ error)
       → ReadsFieldsHeld {E = E} state shape e old (Err error) new → ReadsFieldsHeld meaning (finishing finish shape) e old result new
   held_handed_on state meaning e old new (Ok v) error is h fresh = absurd is

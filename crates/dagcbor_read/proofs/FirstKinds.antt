@@ -7,7 +7,7 @@ use Rattle.dagcbor_decode.specs.TreeKinds.{IsKindAt}
 use Rattle.dagcbor_decode.specs.declared.kind.Kind.{Kind}
 use Rattle.dagcbor_read.specs.Kinds.{ShowsKind}
 
--- the byte that is shown tells the kind of each item that stands there
+-- the byte that is shown tells the kind of any item at the front
 pub kind_shown : {old new : Reading} {byte : ℕ} {kind : Kind} → ShowsByte old byte new → IsKindAt byte kind → ShowsKind old kind new
 kind_shown {old} {new} {byte} {kind} s k = record {
   is = λ b l t rest f.

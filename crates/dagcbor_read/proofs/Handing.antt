@@ -1,4 +1,4 @@
--- What calls hand on of what types answer beside their law.
+-- What calls pass on of what types promise in addition to their law.
 use Rattle.std.proofs.Common.{◌≡◌, ℕ, Bool, false, List, [], ◌++◌, inl, inr, refl, sym, ap, subst, ◌∙◌, ◌<◌, ◌≤◌, arith, Option, None, Some, IfSome, IfErr, Result, Ok, Err, IsErrAnd, MatchResult, codes, ◌⊎◌, ◌+◌, ◌-◌, Global}
 use Rattle.dagcbor_core.specs.Names.{Names}
 use Rattle.dagcbor_core.specs.declared.name.Name.{Name}
@@ -55,7 +55,7 @@ begins_unlent e r = record {
 }
 
 module _ {T E : Type 0} (answers : DeState → Result T (DecodeError E) → DeState → Type 0) (left : Option (List ℕ)) (steps : ℕ) (lends : Bool) where
-  -- the refusal that `?` hands on
+  -- the refusal that `?` passes on
   pub hands_refusal : (start now : DeState) (r : Result T (DecodeError E)) (e : DecodeError E) → IsErrAnd r (λ y. y ≡ e) → IsStart left steps lends start → answers start (Err e) now → HandsWholeOn answers left steps lends r
   hands_refusal start now (Ok v) e h is a = absurd h
   hands_refusal start now (Err y) e h is a = (start, now, is, inl (subst (λ x. answers start (Err x) now) (sym h) a))
@@ -146,7 +146,7 @@ module _ {E S V : Type 0} (refuses : DeState → DecodeError E → DeState → T
 
 -- ---- items
 
--- the others were refused, of which so many are left
+-- the others were refused, with this many left
 pub others_past : {E : Type 0} (refuses : ℕ → DeState → DecodeError E → DeState → Type 0) {count n m : ℕ} {old mid new : DeState} {e : DecodeError E} → IsPast (PassesItems count) old mid → n ≡ m → refuses n mid e new → RefusesPast (PassesItems count) (refuses m) old e new
 others_past refuses {count} {n} {m} {old} {mid} {new} {e} i is r = (mid, i, subst (λ x. refuses x mid e new) is r)
 
@@ -157,7 +157,7 @@ unread_past shape count begun after old mid new v e sound is fewer counted row h
     let k = call_told (EndsItems after) mid new (Err e) sound h in
     (mid, row_past sound (as_row v v (omega (arith, counted, k.1.0)) refl row), (k.0, subst (λ (x : AccessorState). EndsItems x mid.input (Err e) new.input) (is ∙ ap (λ n. record begun { left = n }) counted) k.1))
 
--- so many are left after the first and the others
+-- how many are left after the first and the others
 pub others_counted : (takes : ℕ → ℕ) (first n m k : ℕ) → m ≡ n - 1 → n - m ≡ first → k ≡ m - takes m → k ≡ n - (first + takes (n - 1))
 others_counted takes first n m k one is counted = omega (arith, is, one, subst (λ x. k ≡ m - takes x) one counted)
 

@@ -147,7 +147,7 @@ module _ {V W U : Type 0} {shape : Shape Tree V} {others : Shape Items W} {f : V
 -- ---- items of one type
 
 module _ {V : Type 0} (shape : Shape Tree V) where
-  -- some items were read, which show vs: those after them show the others
+  -- some items, with the views vs, were read; those after them have the other views
   pub record ReadSoFar (before : AccessorState) (old : DeState) (now_left : AccessorState) (vs : List V) (now : DeState) : Type 0 where
     pub sound : now.failed ≡ false
     pub is : now_left ≡ record before { left = now_left.left }
@@ -172,7 +172,7 @@ module _ {V : Type 0} (shape : Shape Tree V) where
             (s.takes (count + 1) (v ∷ xs) end (row_taken (all_joins shape) a t));
       }
 
-  -- none of those that are left
+  -- no items are taken from those left
   pub no_more_items : (r : Reading) → TakesRow (all_of shape) 0 r [] r
   no_more_items r = record { taken = λ b l. (no_items, b, refl, record { well_formed = tt; spellable = tt; is = refl }, refl, omega arith, l); same = stays r }
 
@@ -194,7 +194,7 @@ module _ {V : Type 0} (shape : Shape Tree V) where
   item_refused {E} {before} {now_left} {old} {now} borrows new e s some r =
       refusal_carried Anything Anything old.input now.input new e (same_reader s.same) (λ h. first_of (all_joins shape) some (s.has h)) (λ x. refl) (λ x. x) (λ b l g. tt) r
 
--- an item that lies where the input has its values joins those that do
+-- an item that is in memory where the input has its values joins others that are
 pub lies_pushed : {A X Y : Type 0} (lies : Bool → A → Type 0) {old now : Reading} (r : Result X Y) (xs ys : List A) (o : Option A) (x : A) → Stays old now → o ≡ Some x → IfSome o (lies now.lends) → false ≡ is_err r → ys ≡ cond (is_ok r) (xs ++ x ∷ []) xs
     → All (lies old.lends) xs → All (lies old.lends) ys
 lies_pushed lies {old} {now} (Ok v) xs ys o x same some l e is h =

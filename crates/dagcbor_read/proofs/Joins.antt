@@ -236,7 +236,7 @@ module _ {V : Type 0} (name : List ℕ) (names : List (List ℕ)) (shape : Shape
   }
   name_read before with_name after old mid new false None p is h r = absurd r
 
-  -- it does not stand there
+  -- the name is not the next key
   pub name_passed_on : (before after : AccessorState) (old new : DeState) (o : Option V) → o ≡ own → after ≡ before → new ≡ old → ¬ HasName before.last name old.input
       → PassesOn (field_own shape (name ∷ names)) own before old o after new
   name_passed_on before after old new o kept counted same none = record {

@@ -33,7 +33,7 @@ module _ {V : Type 0} where
       by more Equal e = ap (λ o. match_ordering o ((k, v) ∷ (p.0, w) ∷ ps) ((p.0, v) ∷ ps) ((p.0, w) ∷ put k v ps)) e
       by more Greater e = ap (λ o. match_ordering o ((k, v) ∷ p ∷ put k w ps) ((p.0, v) ∷ put k w ps) (p ∷ put k v (put k w ps))) e ∙ ap (λ qs. p ∷ qs) more
 
-  -- where the place of a key is known
+  -- if the place of a key is known
   put_less : (k : List ℕ) (v : V) (p : List ℕ × V) (ps : List (List ℕ × V)) → key_cmp k p.0 ≡ Less → put k v (p ∷ ps) ≡ (k, v) ∷ p ∷ ps
   put_less k v p ps e = ap (λ o. match_ordering o ((k, v) ∷ p ∷ ps) ((p.0, v) ∷ ps) (p ∷ put k v ps)) e
 

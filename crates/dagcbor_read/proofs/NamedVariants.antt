@@ -42,7 +42,7 @@ none_some {V} {o} n e = let both : is_some o ≡ false = ap is_some n in absurd 
 
 -- ---- an enum that was begun, for a step
 
--- what `deserialize_enum` answers
+-- what `deserialize_enum` did
 pub Spent : EnumState → Reading → Reading → Type 0
 Spent e old mid = (e.steps ≡ 1) × (0 < old.steps) × (mid.steps < mid.budget) × TakesForm e (with_steps (old.steps - 1) old) mid
 
@@ -173,7 +173,7 @@ module _ {V : Type 0} (shape : EnumShape V) where
     | inr p ↦ record { bytes = p.1.after_head; tree = text p.1.name; rest = p.1.after_name; left = p.2; front = p.1.name_front; accepted = refl; within = zero-le }
   ]
 
-  -- a variant that was named is a unit, or what it holds stands after its name
+  -- a variant whose name was read is a unit, or its content comes after its name
   variant_stands : {e : EnumState} {k : List ℕ} {old now : Reading} → Named e k old now → HasFront (enum_of shape) old
       → ((e.in_map ≡ false) × (is_some (shape.unit k) ≡ true)) ⊎ ((e.in_map ≡ true) × HasFront (part_of shape k) now)
   unfolding Behind
@@ -212,7 +212,7 @@ module _ {V : Type 0} (shape : EnumShape V) where
   not_begun {E} borrows name old new r f h = refusal_carried (StepEnumCause name) Anything old.input old.input new.input r (record { faults = refl; lends = refl }) can_begin (λ x. absurd x) (λ x. absurd x) (λ b l g. tt)
       (call_told (SpendsEnum name) old new (Err r) f h).1.0
 
-  -- no variant's name stood there
+  -- there was no variant's name
   pub not_named : {E : Type 0} (borrows : Type 0) (name : List ℕ) (old mid new : DeState) (a : EnumAccessor) (r : DecodeError E) → Call (SpendsEnum {E = E} name) old (Ok a) mid → Call ReadsName mid (Err r) new
       → Refuses (record { could = HasFront (enum_of shape) old.input; lacks = MayLack (enum_of shape).memory old.input; borrows = borrows; stands = Anything }) old.input r new.input
   unfolding Spent

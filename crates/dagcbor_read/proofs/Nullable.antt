@@ -28,7 +28,7 @@ is_null_or : (t : Tree) → (t ≡ null) ⊎ (t ≡ null → ⊥)
 is_null_or null = inl refl
 is_null_or _ = inr (λ e. absurd (cc e))
 
--- a value stands there, so a null or a step
+-- there is a value, so there is a null, or a step is left
 pub can_enter : {V : Type 0} (shape : Shape Tree V) (r : Reading) → HasFront (option_of shape) r → CanEnter r
 can_enter shape r h =
     let f = front_byte h in
@@ -64,7 +64,7 @@ null_entered shape {old} {new} h = record {
   same = h.same;
 }
 
--- what follows the step is no null
+-- what comes after the step is not null
 no_null : {old mid : Reading} (b rest : List ℕ) (t : Tree) → EntersSome old mid → old.left ≡ Some b → IsFront b t rest → t ≡ null → ⊥
 no_null b rest t h l f e =
     let k = h.begins b l in
@@ -81,7 +81,7 @@ some_entered shape {old} {mid} {now} {new} v h a back = record {
   same = given_back (record { steps = h.steps; budget = h.budget; lends = h.lends; faults = h.faults; through = h.through }) a.same refl back;
 }
 
--- the part stands after the step
+-- the part is at the front after the step
 part_stands : {V : Type 0} (shape : Shape Tree V) {old mid : Reading} → EntersSome old mid → HasFront (option_of shape) old → HasFront shape mid
 part_stands shape {old} {mid} h i =
     let p = is_part shape i.tree (no_null i.bytes i.rest i.tree h i.left i.front) in

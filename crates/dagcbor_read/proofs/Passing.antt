@@ -1,4 +1,4 @@
--- What is kept over a part: steps that were spent on it, and where memory may be wanting.
+-- What stays the same over a part: steps that were spent on it, and whether memory may run out.
 use Rattle.std.proofs.Common.{◌≡◌, ℕ, ◌+◌, Bool, true, false, ◌||◌, refl, sym, ap, ◌∙◌, arith}
 use Rattle.dagcbor_heads.specs.Reading.{Reading, Stays, with_steps}
 use Rattle.dagcbor_items.specs.Shapes.{unless_lent}
@@ -33,7 +33,7 @@ pub or_right : (a b : Bool) → b ≡ true → (a || b) ≡ true
 or_right true b e = refl
 or_right false b e = e
 
--- what takes memory of a reader takes it of what that was before, which lends the same
+-- if memory may run out for a reader, it may for the reader before, which lends the same
 pub lacks_before : (memory : Bool → Bool) {old mid : Bool} → mid ≡ old → memory mid ≡ true → memory old ≡ true
 lacks_before memory same h = ap memory (sym same) ∙ h
 

@@ -18,7 +18,7 @@ by_false : (b : Bool) (P Q : Type 0) → b ≡ false → Q → MatchBool b P Q
 by_false true P Q e h = absurd (cc e)
 by_false false P Q e h = h
 
--- the answer of a call on what had failed
+-- a Deserializer that had failed returns `Failed`
 abbrev IsFailed : {T E : Type 0} → Result T (DecodeError E) → Type 0
 IsFailed r = r ≡ Err Failed
 
@@ -26,7 +26,7 @@ not_failed : (T E : Type 0) (failed : Bool) (v : T) (Same Q : Type 0) → MatchB
 not_failed T E true v Same Q h = absurd (cc h.0)
 not_failed T E false v Same Q h = (refl, h)
 
--- a call that answered
+-- a call that succeeded
 pub call_answered : {T E : Type 0} (reads : Reading → Result T (DecodeError E) → Reading → Type 0) (old new : DeState) (v : T) → Call reads old (Ok v) new
     → (old.failed ≡ false) × (new.failed ≡ false) × reads old.input (Ok v) new.input
 call_answered {T} {E} reads old new v h = let k = not_failed T E old.failed v (new ≡ old) _ h in (k.0, k.1.0, k.1.1)
@@ -40,7 +40,7 @@ pub call_of : {T E : Type 0} (reads : Reading → Result T (DecodeError E) → R
     → (new.failed ≡ is_err r) × reads old.input r new.input → Call reads old r new
 call_of reads old new r sound h = by_false old.failed _ _ sound h
 
--- the error that `?` hands on
+-- the error that `?` passes on
 pub call_refused : {T E : Type 0} (reads : Reading → Result T (DecodeError E) → Reading → Type 0) (old new : DeState) (r : Result T (DecodeError E)) (e : DecodeError E) → IsErrAnd r (λ y. y ≡ e)
     → Call reads old (Err e) new → Call reads old r new
 call_refused reads old new (Ok v) e h q = absurd h
@@ -53,14 +53,14 @@ failure_passed : (T U E : Type 0) (failed : Bool) (e : DecodeError E) (Same Q Q'
 failure_passed T U E true e Same Q Q' f h = (is_failed T U E e h.0, h.1)
 failure_passed T U E false e Same Q Q' f h = f h
 
--- the refusal of a call on the same, which is one of the whole
+-- the refusal of a call with the same cause, as a refusal of the whole
 pub call_passed_on : {T U E : Type 0} (reads : Reading → Result T (DecodeError E) → Reading → Type 0) (reads' : Reading → Result U (DecodeError E) → Reading → Type 0) (old new : DeState) (e : DecodeError E)
     → (reads old.input (Err e) new.input → reads' old.input (Err e) new.input) → Call reads old (Err e) new → Call reads' old (Err e) new
 call_passed_on {T} {U} {E} reads reads' old new e f h = failure_passed T U E old.failed e _ _ _ (λ k. (k.0, f k.1)) h
 
 -- ---- a call that begins, and reads by another
 
--- what beginning did: it counts as refused until it answers
+-- what beginning a call did: it counts as refused until it returns
 abbrev Begun : DeState → DeState → Type 0
 Begun old mid = (old.failed ≡ false) × (mid ≡ record { input = old.input; failed = true })
 
@@ -70,7 +70,7 @@ pub begun_and_read : {T E : Type 0} (reads : Reading → Result T (DecodeError E
 begun_and_read reads old mid v now b r =
     call_of reads old _ (Ok v) b.0 (refl, subst (λ (p : DeState). reads p.input (Ok v) now) b.1 r)
 
--- the error that `?` hands on
+-- the error that `?` passes on
 pub begun_and_refused : {T E : Type 0} (reads : Reading → Result T (DecodeError E) → Reading → Type 0)
     (old mid : DeState) (r : Result T (DecodeError E)) (e : DecodeError E) (now : Reading)
     → Begun old mid → IsErrAnd r (λ y. y ≡ e) → reads mid.input (Err e) now

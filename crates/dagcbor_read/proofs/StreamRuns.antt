@@ -19,7 +19,7 @@ use Rattle.dagcbor_items.specs.Shapes.{Shape}
 
 -- ---- what came, against the bytes
 
--- bytes are left, and no value stands at their front
+-- bytes are left, and there is no value at their front
 abbrev NoValue : {V : Type 0} → Shape Tree V → ℕ → List ℕ → Type 0
 NoValue shape steps b = (0 < length b) × BeginsWithNoValue shape steps b
 
@@ -37,7 +37,8 @@ gave_up_at shape lends steps b items (Read x) k g = tt
 gave_up_at shape lends steps b items _ k g = (g.0, λ none. some_of_none shape steps b (subst (λ x. AreStreamItems shape steps b x) none k) g.1)
 
 module _ {T V : Type 0} (E : Type 0) (meaning : T → V) (shape : Shape Tree V) (lends : Bool) (steps : ℕ) (whole : Bool) where
-  -- values stand one after the other, and at the end no byte, or no value, or one at which it gave up
+  -- the values come one after another; then no byte is left, or no value, or one at which the read
+  -- gave up
   abbrev Came : List ℕ → List (Result T (DecodeError E)) → Type 0
   Came b [] = whole ≡ true → b ≡ []
   Came b (Ok v ∷ xs) = (rest : List ℕ) × IsFirst shape steps b (meaning v) rest × Came rest xs
@@ -79,7 +80,7 @@ module _ {T V : Type 0} (E : Type 0) (meaning : T → V) (shape : Shape Tree V) 
 
 -- ---- what came, against the calls
 
--- a stream over known bytes, with so many steps
+-- a stream over known bytes, with this many steps
 record Over (b : List ℕ) (steps : ℕ) (lends : Bool) (s : StreamState) : Type 0 where
   is_over : IsOver b s
   steps_left : s.source.input.steps ≡ steps

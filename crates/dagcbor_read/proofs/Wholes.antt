@@ -17,7 +17,7 @@ use Rattle.dagcbor_read.specs.Values.{ReadsValue}
 use Rattle.dagcbor_read.specs.Whole.{IsWhole, HoldsNoValue, IsFirst, TakesFirst, BeginsWithNoValue, IsReadExcuse, OfWhole, IsForBehind, LacksMemoryIf}
 use Rattle.dagcbor_items.specs.Shapes.{Shape}
 
--- what holds of a refusal that `?` hands on
+-- what holds of a refusal that `?` passes on
 pub on_refusal : {T E : Type 0} (Q : DecodeError E → Type 0) (r : Result T (DecodeError E)) (e : DecodeError E) → IsErrAnd r (λ y. y ≡ e) → Q e → IfErr r Q
 on_refusal Q (Ok v) e h q = tt
 on_refusal Q (Err y) e h q = subst Q (sym h) q
@@ -26,7 +26,7 @@ pub not_answered : {T E : Type 0} (P : T → Type 0) (r : Result T (DecodeError 
 not_answered P (Ok v) e h = absurd h
 not_answered P (Err y) e h = tt
 
--- a result that is tested, and handed on as it is
+-- a result that is tested, and returned as it is
 pub the_refusal : {T E : Type 0} (r : Result T E) → true ≡ is_err r → (e : E) × (r ≡ Err e)
 the_refusal (Ok v) is = cc
 the_refusal (Err e) is = (e, refl)
@@ -51,13 +51,13 @@ follows : {T E : Type 0} (P Q : DecodeError E → Type 0) → ((e : DecodeError 
 follows P Q f (Ok v) h = tt
 follows P Q f (Err e) h = f e h
 
--- a slice has no source, which might fault
+-- a slice has no source that might fault
 pub slice_excused : {P : Type 0} (e : DecodeError Infallible) → IsReadExcuse e ⊎ P → (e ≡ OutOfMemory) ⊎ P
 slice_excused (Read x) r = elim x [ ]
 slice_excused OutOfMemory r = inl refl
 slice_excused _ r = elim r [ inl k ↦ absurd k | inr k ↦ inr k ]
 
--- what holds of the bytes, where they are known
+-- what holds of the bytes, if they are known
 if_known : (left : Option (List ℕ)) (P : List ℕ → Type 0) → ((b : List ℕ) → left ≡ Some b → P b) → IfSome left P
 if_known None P f = tt
 if_known (Some b) P f = f b refl
@@ -103,7 +103,8 @@ module _ {V : Type 0} (shape : Shape Tree V) (steps : ℕ) where
   first_refused left old new (DepthOverflow name) at s o n r = (inr (if_known left _ (λ b l v rest h. r.1 (first_front old b v rest (at ∙ l) s h))), tt, tt)
   first_refused left old new _ at s o n r = (inr (if_known left _ (λ b l v rest h. r.1 (first_front old b v rest (at ∙ l) s h))), tt, tt)
 
-  -- A value that borrows nothing was read; after an answer what the reader has left is what the source has.
+  -- A value that borrows nothing was read. After a success the source has left what the reader has
+  -- left.
   module _ {T E : Type 0} (meaning : T → V) (left after : Option (List ℕ)) (start mid : DeState) (r : Result T (DecodeError E))
       (sound : start.failed ≡ false) (at : start.input.left ≡ left) (s : start.input.steps ≡ steps) (o : shape.wants_loan ≡ false) (n : start.input.lends ≡ false) (h : ReadsValue meaning shape start r mid)
     where
@@ -150,11 +151,11 @@ module _ {V : Type 0} (shape : Shape Tree V) (steps : ℕ) where
         → (mid.failed ≡ false) × TakesFront shape start v mid.input → Ends mid (Err e) end → NotWhole left lends e
     value_end_refused start mid end v e at h k = value_told end.input v e end.failed at h.1 (match_false mid.failed _ _ h.0 k)
 
-    -- where no front stands
+    -- if there is no front
     no_front : (old : Reading) (e : DecodeError E) → old.left ≡ left → old.steps ≡ steps → (HasFront shape old → ⊥) → IfSome left (HoldsNoValue shape steps) × IfSome left (λ b. IsForBehind shape steps b e)
     no_front old e at s n = (if_known left _ (λ b l v h. n (whole_of_front old b v (at ∙ l) s h)), if_known left _ (λ b l v rest h. absurd (n (first_front old b v rest (at ∙ l) s h))))
 
-    -- no value was read; a loan was not wanting
+    -- no value was read, and not for lack of a loan
     pub value_refused : (borrows : Type 0) (e : DecodeError E) (old new : Reading) → old.left ≡ left → old.steps ≡ steps → old.lends ≡ lends → (borrows → old.lends ≡ false → ⊥)
         → Refuses (record { could = HasFront shape old; lacks = MayLack shape.memory old; borrows = borrows; stands = Anything }) old e new → NotWhole left lends e
     value_refused borrows (Read x) old new at s o n r = (inl tt, tt, if_known left _ (λ b l v rest h. inl tt), tt)

@@ -1,4 +1,4 @@
--- What lists and maps show to a type, and the steps that reading them takes.
+-- The views that types have of lists and maps, and the steps that reading them takes.
 use Rattle.std.specs.Prelude.{◌≡◌, ◌||◌, ℕ, ◌+◌, ◌-◌, ◌≤◌, max, Bool, false, List, [], ◌∷◌, Option, None, Some, option_map, option_and_then, Result, MatchResult, map, String, string_bytes}
 use Rattle.std.specs.declared.alloc.Global.{Global}
 use Rattle.std.proofs.Common.{sym, subst}
@@ -17,7 +17,7 @@ use Rattle.dagcbor_items.specs.Shapes.{Shape, takes_none, takes_some, unless_len
 
 -- ---- lists
 
--- A list shows what the row of its items shows.
+-- The view of a list is the view of the row of its items.
 abbrev pub view_list : {V : Type 0} → (Items → Option V) → Tree → Option V
 view_list view (list ts) = view ts
 view_list view _ = None
@@ -27,7 +27,7 @@ abbrev pub need_list : (Items → ℕ) → Tree → ℕ
 need_list need (list ts) = 1 + need ts
 need_list need _ = 1
 
--- a list, whose items are read as the row
+-- a list whose items are read as this row
 abbrev pub list_of : {V : Type 0} → Shape Items V → Shape Tree V
 list_of row = record {
   view = view_list row.view;
@@ -36,12 +36,12 @@ list_of row = record {
   memory = row.memory;
 }
 
--- items of one type, any number of them
+-- the view of items that are all of one type
 abbrev pub view_items : {V : Type 0} → (Tree → Option V) → Items → Option (List V)
 view_items view no_items = Some []
 view_items view (item t ts) = option_and_then (λ v. option_map (λ vs. v ∷ vs) (view_items view ts)) (view t)
 
--- the greatest need
+-- the greatest need of an item
 abbrev pub need_items : (Tree → ℕ) → Items → ℕ
 need_items need no_items = 0
 need_items need (item t ts) = max (need t) (need_items need ts)
@@ -55,16 +55,16 @@ all_of shape = record {
   memory = takes_some;
 }
 
--- no item
+-- the view of a row that must be empty
 abbrev pub view_none : Items → Option (Unit {0})
 view_none no_items = Some tt
 view_none (item t ts) = None
 
--- no item
+-- a row that must be empty
 abbrev pub no_more : Shape Items (Unit {0})
 no_more = record { view = view_none; need = λ ts. 0; wants_loan = false; memory = takes_none }
 
--- an item of a type of its own, before other items
+-- the view of an item of its own type, before other items
 abbrev pub view_first : {V W : Type 0} → (Tree → Option V) → (Items → Option W) → Items
     → Option (V × W)
 view_first view others no_items = None
@@ -84,18 +84,18 @@ first_then shape others = record {
   memory = λ lends. shape.memory lends || others.memory lends;
 }
 
--- an item of a type of its own, before other items; it is absent where no item is left
+-- the view of an item of its own type, before other items; it is absent if no item is left
 abbrev pub view_optional : {V W : Type 0} → (Tree → Option V) → (Items → Option W) → Items
     → Option (Option V × W)
 view_optional view others no_items = option_map (λ w. (None, w)) (others no_items)
 view_optional view others (item t ts) = option_and_then (λ v. option_map (λ w. (Some v, w)) (others ts)) (view t)
 
--- the greater of what the first item needs, where it is there, and what the others need
+-- the greater of what the first item needs, if there is one, and what the others need
 abbrev pub need_optional : (Tree → ℕ) → (Items → ℕ) → Items → ℕ
 need_optional need others no_items = others no_items
 need_optional need others (item t ts) = max (need t) (others ts)
 
--- one item of a type, or none, and others after it
+-- at most one item of a type, and others after it
 abbrev pub optional_then : {V W : Type 0} → Shape Tree V → Shape Items W
     → Shape Items (Option V × W)
 optional_then shape others = record {
@@ -105,15 +105,15 @@ optional_then shape others = record {
   memory = λ lends. shape.memory lends || others.memory lends;
 }
 
--- so many items stood at the front which show v, and were taken
+-- `count` items with the view v were at the front, and were taken
 pub record TakesRow {V : Type 0} (shape : Shape Items V) (count : ℕ) (old : Reading) (v : V) (new : Reading) : Type 0 where
   pub taken : (b : List ℕ) → old.left ≡ Some b
       → (ts : Items) × (rest : List ℕ) × (item_count ts ≡ count) × AreFronts b ts rest
       × (shape.view ts ≡ Some v) × (shape.need ts ≤ old.steps) × (new.left ≡ Some rest)
   pub same : Stays old new
 
--- Items of a list that was begun are read from the first that is left on. Where all that are left
--- make a row, none is left then.
+-- The items of a list that was begun are read, from the first that is left. If all items left make
+-- a row, all are taken.
 abbrev pub ReadsRow : {T V E : Type 0} → (T → V) → Shape Items V → AccessorState → DeState
     → Result T (DecodeError E) → AccessorState → DeState → Type 0
 ReadsRow meaning shape before old result after new = MatchResult result
@@ -122,36 +122,36 @@ ReadsRow meaning shape before old result after new = MatchResult result
     × (HasRow shape before.left old.input → after.left ≡ 0))
     (λ e. RefusesRead (HasRow shape before.left old.input) shape old.input e new.input)
 
--- All that is left of a list that was begun is read, and it is ended: its steps are given back.
+-- All items left of a list that was begun are read, and the list ends: its steps are given back.
 abbrev pub ReadsRest : {T V E : Type 0} → (T → V) → Shape Items V → AccessorState → DeState
     → Result T (DecodeError E) → DeState → Type 0
 ReadsRest meaning shape before old result new = MatchResult result
     (λ v. (new.failed ≡ false) × (now : Reading) × TakesRow shape before.left old.input (meaning v) now × (new.input ≡ with_steps (now.steps + before.steps) now))
     (λ e. RefusesRead (HasRow shape before.left old.input) shape old.input e new.input)
 
--- neither wants a loan
+-- If neither wants a loan, both together want none.
 abbrev pub neither : {a b : Bool} → a ≡ false → b ≡ false → (a || b) ≡ false
 neither {a} {b} e h = subst (λ x. (x || b) ≡ false) (sym e) h
 
 -- ---- maps
 
--- The shape of what takes a map's entries one after another into its state.
+-- How a type takes a map's entries into its state, one after another.
 pub record FieldShape (S : Type 0) : Type 0 where
-  -- the state once the value of a key was read; none where the value is not accepted
+  -- the state after the value of a key; `None` if the value is not accepted
   pub take : S → List ℕ → Tree → Option S
   -- the steps that reading the value of a key takes
   pub need : List ℕ → Tree → ℕ
   -- whether reading it wants a loan of the input
   pub wants_loan : Bool
-  -- whether reading a value may take memory, of an input that lends or of one that does not
+  -- whether reading a value may take memory, depending on whether the input lends
   pub memory : Bool → Bool
 
--- What a map's entries show.
+-- The state after all entries of a map.
 abbrev pub view_entries : {S : Type 0} → (S → List ℕ → Tree → Option S) → S → Entries → Option S
 view_entries take state no_entries = Some state
 view_entries take state (entry k t es) = option_and_then (λ next. view_entries take next es) (take state k t)
 
--- what a map's entries make of the state at the start
+-- the state after a map's entries, from the state at the start
 abbrev pub view_fields : {S : Type 0} → (S → List ℕ → Tree → Option S) → S → Tree → Option S
 view_fields take start (mapping es) = view_entries take start es
 view_fields take start _ = None
@@ -166,7 +166,7 @@ abbrev pub need_fields : (List ℕ → Tree → ℕ) → Tree → ℕ
 need_fields need (mapping es) = 1 + need_entries need es
 need_fields need _ = 1
 
--- what the value of a key shows in a state
+-- a value, of this key, that changes the state
 abbrev pub value_of : {S : Type 0} → FieldShape S → S → List ℕ → Shape Tree S
 value_of shape s k = record {
   view = shape.take s k;
@@ -175,11 +175,11 @@ value_of shape s k = record {
   memory = shape.memory;
 }
 
--- the keys are read without memory where the input lends
+-- whether reading the fields may take memory: keys take none if the input lends
 abbrev pub fields_memory : {S : Type 0} → FieldShape S → Bool → Bool
 fields_memory shape lends = unless_lent lends || shape.memory lends
 
--- a map, whose entries are taken one by one
+-- a map whose entries are taken one by one
 abbrev pub fields_of : {S : Type 0} → FieldShape S → S → Shape Tree S
 fields_of shape start = record {
   view = view_fields shape.take start;
@@ -188,7 +188,7 @@ fields_of shape start = record {
   memory = fields_memory shape;
 }
 
--- what entries show, taken one after another from a state on
+-- entries that are taken one after another, from a state on
 abbrev pub all_entries : {S : Type 0} → FieldShape S → S → Shape Entries S
 all_entries shape state = record {
   view = view_entries shape.take state;
@@ -197,12 +197,12 @@ all_entries shape state = record {
   memory = fields_memory shape;
 }
 
--- so many entries stand at the front, after the last key, that the state takes
+-- `count` entries are at the front, after the last key, and the state takes them
 abbrev pub HasFields : {S : Type 0} → FieldShape S → S → Option (List ℕ) → ℕ → Reading → Type 0
 HasFields shape state = HasEntryRow (all_entries shape state)
 
--- so many entries stood at the front, after the last key, which bring the state to s, and were
--- taken
+-- `count` entries were at the front, after the last key. They were taken, and changed the state to
+-- s.
 pub record TakesFields {S : Type 0} (shape : FieldShape S) (state : S) (last : Option (List ℕ)) (count : ℕ) (old : Reading) (s : S) (new : Reading) : Type 0 where
   pub taken : (b : List ℕ) → old.left ≡ Some b
       → (es : Entries) × (rest : List ℕ) × (entry_count es ≡ count) × AllFollow last es
@@ -210,7 +210,7 @@ pub record TakesFields {S : Type 0} (shape : FieldShape S) (state : S) (last : O
       × (need_entries shape.need es ≤ old.steps) × (new.left ≡ Some rest)
   pub same : Stays old new
 
--- All that is left of a map that was begun is read, and it is ended: its steps are given back.
+-- All entries left of a map that was begun are read, and the map ends: its steps are given back.
 abbrev pub ReadsEntriesLeft : {T S E : Type 0} → (T → S) → FieldShape S → S → AccessorState
     → DeState → Result T (DecodeError E) → DeState → Type 0
 ReadsEntriesLeft meaning shape start before old result new = MatchResult result
@@ -218,7 +218,7 @@ ReadsEntriesLeft meaning shape start before old result new = MatchResult result
     (λ e. RefusesRead (HasFields shape start before.last before.left old.input)
     (all_entries shape start) old.input e new.input)
 
--- what a value shows to the place of a field
+-- the view of a value as the filled place of a field
 abbrev pub view_slot : {V : Type 0} → (Tree → Option V) → Tree → Option (Option V)
 view_slot view t = option_map Some (view t)
 
@@ -231,7 +231,7 @@ slot_of shape = record {
   memory = shape.memory;
 }
 
--- a value is finished from what was read before
+-- what was read before, finished into a value
 abbrev pub finishing : {S V : Type 0} → (S → Option V) → Shape Tree S → Shape Tree V
 finishing finish shape = record {
   view = λ t. option_and_then finish (shape.view t);
@@ -240,20 +240,20 @@ finishing finish shape = record {
   memory = shape.memory;
 }
 
--- a struct is finished from what its fields showed
+-- a struct, finished from its fields
 abbrev pub struct_of : {S V : Type 0} → FieldShape S → S → (S → Option V) → Shape Tree V
 struct_of shape start finish = finishing finish (fields_of shape start)
 
--- the keys as bytes, and what the values hold
+-- the keys as bytes, and the views of the values
 abbrev pub held_pairs : {A V : Type 0} → (A → V) → List (String Global × A) → List (List ℕ × V)
 held_pairs meaning es = map (λ e. (string_bytes e.0, meaning e.1)) es
 
--- the pairs, put one by one into the order of their keys
+-- the pairs, sorted by insertion in the order of their keys
 abbrev pub in_key_order : {V : Type 0} → List (List ℕ × V) → List (List ℕ × V)
 in_key_order [] = []
 in_key_order (p ∷ ps) = insert_entry key_cmp (in_key_order ps) p.0 p.1
 
--- what a value shows goes to the place of its key
+-- the view of a value goes to the place of its key
 abbrev pub take_entry : {V : Type 0} → (Tree → Option V) → List (List ℕ × V) → List ℕ → Tree
     → Option (List (List ℕ × V))
 take_entry view pairs k t = option_map (λ v. insert_entry key_cmp pairs k v) (view t)
@@ -267,6 +267,6 @@ values_of shape = record {
   memory = takes_some;
 }
 
--- a map whose values all show something shows the pairs in the order of their keys
+-- A map whose values all have a view. Its view is the pairs in the order of their keys.
 abbrev pub map_of : {V : Type 0} → Shape Tree V → Shape Tree (List (List ℕ × V))
 map_of shape = fields_of (values_of shape) []

@@ -10,7 +10,7 @@ use Rattle.dagcbor_read.specs.declared.deserializer.Deserializer.{Deserializer}
 
 -- a Deserializer
 pub record DeState : Type 0 where
-  -- what it reads from
+  -- its reader
   pub input : Reading
   -- whether a call was refused
   pub failed : Bool
@@ -19,35 +19,35 @@ pub record DeState : Type 0 where
 abbrev pub de_state : {R : Type 0} → (R → Reading) → Deserializer R → DeState
 de_state reading de = record { input = input_reading reading de.input; failed = de.failed }
 
--- What a call does to a Deserializer over a reader
+-- What a call does to a Deserializer over a reader.
 abbrev pub Over : {R A : Type 0} → (R → Reading) → (DeState → A → DeState → Type 0)
     → Deserializer R → A → Deserializer R → Type 0
 Over reading does old result new = does (de_state reading old) result (de_state reading new)
 
--- A call on a Deserializer that has failed answers `Failed`, and changes nothing. Any other reads,
--- and has failed exactly where it is refused.
+-- A call on a Deserializer that has failed returns `Failed`, and changes nothing. Any other call
+-- reads, and the Deserializer has failed exactly if the call was refused.
 abbrev pub Call : {T E : Type 0} → (Reading → Result T (DecodeError E) → Reading → Type 0)
     → DeState → Result T (DecodeError E) → DeState → Type 0
 Call reads old result new = MatchBool old.failed
     ((result ≡ Err Failed) × (new ≡ old))
     ((new.failed ≡ is_err result) × reads old.input result new.input)
 
--- What has failed answers `Failed`, and stays as it is.
+-- A Deserializer that has failed returns `Failed`, and stays as it is.
 abbrev pub StaysFailed : {T E : Type 0} → DeState → Result T (DecodeError E) → DeState → Type 0
 StaysFailed old result new = old.failed ≡ true → (result ≡ Err Failed) × (new ≡ old)
 
--- Where nothing has failed, so many steps are out, which may be given back.
+-- If nothing has failed, this many steps are spent and may be given back.
 abbrev pub AreOut : ℕ → DeState → Type 0
 AreOut steps de = de.failed ≡ false → 0 < steps → de.input.steps + steps ≤ de.input.budget
 
--- The first byte was taken, with at most three looks at it; or it stays, with one.
+-- The first byte was taken, with at most three looks at it; or it stays, with one look.
 abbrev pub LooksAtFirst : {T E : Type 0} → (T → Bool) → Reading → Result T E → Reading → Type 0
 LooksAtFirst is_taken old result new = MatchResult result
     (λ v. MatchBool (is_taken v) (LooksAtTaken 3 0 old new) (LooksOnce old new))
     (λ _. LooksAtLeft 3 0 old new)
 
--- the end of the input was found; or bytes after the item, which stay, and then nothing has
--- failed; or the reader faulted
+-- The end of the input was found; or bytes after the item were, and they stay, and nothing has
+-- failed; or the reader faulted.
 abbrev pub TellsEnd : {E : Type 0} → Reading → Result (Unit {0}) (DecodeError E) → Reading → Bool
     → Type 0
 TellsEnd old (Ok u) new failed = (failed ≡ false) × FindsEnd old new
@@ -55,7 +55,7 @@ TellsEnd old (Err TrailingData) new failed = (failed ≡ false) × (byte : ℕ) 
 TellsEnd old (Err (Read e)) new failed = (failed ≡ true) × (old.faults < new.faults)
 TellsEnd old (Err _) new failed = ⊥
 
--- what `end` does, which answers `Failed` too after a refusal
+-- what `end` does: after a refusal, it returns `Failed`
 abbrev pub Ends : {E : Type 0} → DeState → Result (Unit {0}) (DecodeError E) → DeState → Type 0
 Ends old result new = MatchBool old.failed
     ((result ≡ Err Failed) × (new ≡ old))

@@ -43,20 +43,20 @@ pub record HasEnum (r : Reading) : Type 0 where
   pub left : r.left ≡ Some (byte ∷ rest)
   pub accepted : (byte ≡ 0xa1) ⊎ (byte / 32 ≡ 3)
 
--- the first byte of a text stands there, and stays; or a1 stood there, and was taken
+-- the first byte of a text is at the front, and stays; or a1 was there, and was taken
 abbrev pub TakesForm : EnumState → Reading → Reading → Type 0
 TakesForm e old new = MatchBool e.in_map
     ((e.first ≡ 0xa1) × Takes old (0xa1 ∷ []) new)
     ((e.first / 32 ≡ 3) × ShowsByte old e.first new)
 
--- why an enum is not begun: no byte, or one that begins no enum
+-- why an enum is not begun: there is no byte, or it begins no enum
 abbrev pub EnumCause : {E : Type 0} → DecodeError E → List ℕ → Type 0
 EnumCause (Eof name expect) b = Names name (codes "enum") × (expect ≡ Small 1) × (b ≡ [])
 EnumCause (Mismatch name found) b = Names name (codes "enum")
     × ((more : List ℕ) × (b ≡ found ∷ more) × (found ≢ 0xa1) × (found / 32 ≢ 3))
 EnumCause _ b = ⊥
 
--- An enum is begun exactly where one may begin. No step is spent on it.
+-- An enum is begun exactly if one may begin here. It takes no step.
 abbrev pub BeginsEnum : {E : Type 0} → Reading → Result EnumAccessor (DecodeError E) → Reading
     → Type 0
 BeginsEnum old result new = MatchResult result
@@ -68,7 +68,7 @@ abbrev pub StepEnumCause : {E : Type 0} → List ℕ → DecodeError E → List 
 StepEnumCause name (DepthOverflow n) b = Names n name
 StepEnumCause name e b = EnumCause e b
 
--- which refusals are answered, also where the bytes are not known
+-- which variants a refusal may have, even if the bytes are not known
 abbrev pub OfForm : {E : Type 0} → DecodeError E → Type 0
 OfForm (DepthOverflow name) = ⊤
 OfForm e = OfByte e
@@ -77,7 +77,7 @@ OfForm e = OfByte e
 abbrev pub HasStepEnum : Reading → Type 0
 HasStepEnum r = HasEnum r × (0 < r.steps)
 
--- An enum is begun exactly where one may begin and a step is left, which is spent.
+-- An enum is begun exactly if one may begin here and a step is left. The step is spent.
 abbrev pub SpendsEnum : {E : Type 0} → List ℕ → Reading → Result EnumAccessor (DecodeError E)
     → Reading → Type 0
 SpendsEnum name old result new = MatchResult result
@@ -91,20 +91,20 @@ abbrev pub IsOtherForm : {E : Type 0} → EnumState → DecodeError E → Type 0
 IsOtherForm e (Mismatch name found) = Names name (codes "enum") × (found ≡ e.first)
 IsOtherForm e _ = ⊥
 
--- A variant's name is read exactly where a text stands, with no want of memory where the input
--- lends.
+-- A variant's name is read exactly if a text is at the front. If the input lends, it takes no
+-- memory.
 abbrev pub ReadsName : {E : Type 0} → Reading
     → Result (CowStr Global × EnumAccessor) (DecodeError E) → Reading → Type 0
 ReadsName old = Reads (λ v. cow_str_bytes v.0) (leaf view_text) (old.lends ≡ false) ⊥ (TextCause (codes "string")) old
 
--- The form of a map is there, or the other, which is refused. Nothing is read.
+-- The enum has the form of a map; if it has the other form, it is refused. Nothing is read.
 abbrev pub EntersMap : {E : Type 0} → EnumState → Reading → Result (Unit {0}) (DecodeError E)
     → Reading → Type 0
 EntersMap e old result new = MatchResult result
     (λ _. (e.in_map ≡ true) × (new ≡ old))
     (λ r. (e.in_map ≡ false) × IsOtherForm e r × (new ≡ old))
 
--- The list or map of what a variant holds is begun as any, exactly where the enum has the form of a
+-- The list or map that a variant holds is begun as any other, exactly if the enum has the form of a
 -- map. Its end gives the enum's steps back too.
 abbrev pub BeginsHeld : {E : Type 0} → ℕ → List ℕ → EnumState → Reading
     → Result Accessor (DecodeError E) → Reading → Type 0
@@ -112,22 +112,22 @@ BeginsHeld major name e old result new = MatchBool e.in_map
     (BeginsItems major name (e.steps + 1) old result new)
     (MatchResult result (λ _. ⊥) (λ r. IsOtherForm e r × (new ≡ old)))
 
--- A variant that is its name alone is ended exactly where the enum has that form: its steps are
--- given back.
+-- A variant that is its name alone ends exactly if the enum has that form. Its steps are given
+-- back.
 abbrev pub EndsUnit : {E : Type 0} → EnumState → Reading → Result (Unit {0}) (DecodeError E)
     → Reading → Type 0
 EndsUnit e old result new = MatchResult result
     (λ _. (e.in_map ≡ false) × (new ≡ with_steps (old.steps + e.steps) old))
     (λ r. (e.in_map ≡ true) × IsOtherForm e r × (new ≡ old))
 
--- The enum has the form of a map, and what the variant holds shows v and was taken. Then the enum's
--- steps were given back.
+-- The enum has the form of a map. What the variant holds was taken, with the view v, and then the
+-- enum's steps were given back.
 abbrev pub TakesHeld : {V : Type 0} → Shape Tree V → EnumState → Reading → V → Reading → Type 0
 TakesHeld shape e old v new = (e.in_map ≡ true)
     × ((now : Reading) × TakesFront shape old v now × (new ≡ with_steps (now.steps + e.steps) now))
 
--- What a variant holds is read as the law of its type says, exactly where the enum has the form of
--- a map.
+-- What a variant holds is read as the law of its type says, exactly if the enum has the form of a
+-- map.
 abbrev pub ReadsHeld : {T V E : Type 0} → (T → V) → Shape Tree V → EnumState → Reading
     → Result T (DecodeError E) → Reading → Type 0
 ReadsHeld meaning shape e old result new = MatchResult result
@@ -135,8 +135,8 @@ ReadsHeld meaning shape e old result new = MatchResult result
     (λ r. MatchBool e.in_map (RefusesRead (HasFront shape old) shape old r new)
     (IsOtherForm e r × (new ≡ old)))
 
--- The fields that a variant holds are read as the law of their type says, where nothing had failed.
--- After an answer nothing has failed.
+-- If nothing had failed, the fields that a variant holds are read as the law of their type says. If
+-- they are read, nothing has failed.
 abbrev pub ReadsFieldsHeld : {T V E : Type 0} → (T → V) → Shape Tree V → EnumState → DeState
     → Result T (DecodeError E) → DeState → Type 0
 ReadsFieldsHeld meaning shape e old result new = old.failed ≡ false → IfOk result (λ v. new.failed ≡ false) × ReadsHeld meaning shape e old.input result new.input

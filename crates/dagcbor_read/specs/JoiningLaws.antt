@@ -1,4 +1,4 @@
--- That groups of fields join what follows them: a field, and two groups.
+-- Groups of fields join what comes after them: a field does, and two groups do.
 use Rattle.std.specs.Prelude.{◌≡◌, ◌||◌, ℕ, Bool, true, false, List, [], ◌∷◌, Option, None, Some, option_map, if◌then◌else◌, bytes_eq}
 use Rattle.std.specs.Option.{option_flatten}
 use Rattle.std.proofs.Common.{refl, sym, ap, ◌∙◌}

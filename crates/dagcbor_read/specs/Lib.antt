@@ -1,4 +1,4 @@
--- handed on from the crates below
+-- re-exported from the crates below
 pub use Rattle.dagcbor_heads.specs.Reading
 pub use Rattle.dagcbor_heads.specs.Fronts
 pub use Rattle.dagcbor_heads.specs.Looking
@@ -22,7 +22,7 @@ pub use Rattle.dagcbor_items.specs.Shapes
 pub use Rattle.dagcbor_items.specs.TypedReads
 pub use Rattle.dagcbor_items.specs.Majors
 pub use Rattle.dagcbor_items.specs.LeafReads
--- of this crate, from below upwards
+-- this crate's own, from the bottom up
 pub mod Deserializers
 pub mod Values
 pub mod Options

@@ -1,4 +1,4 @@
--- What reading a value that may be null answers and refuses.
+-- What reading a value that may be null does.
 use Rattle.std.specs.Prelude.{◌≡◌, ◌≢◌, ℕ, ◌+◌, ◌<◌, ◌⊎◌, Bool, List, [], ◌∷◌, Option, Some, option_map, Result, MatchResult, MatchBool, codes}
 use Rattle.dagcbor_heads.specs.Reading.{Reading, Keeps}
 use Rattle.dagcbor_heads.specs.Fronts.{Takes}
@@ -11,14 +11,14 @@ use Rattle.ipld_tree.specs.Tree.{Tree}
 use Rattle.dagcbor_items.specs.Shapes.{Shape, option_of}
 use Rattle.dagcbor_items.specs.TypedReads.{RefusesRead, HasFront, TakesFront, NoStepIfDeep}
 
--- a null stands at the front, or another byte, and a step is left
+-- a null is at the front; or another byte is, and a step is left
 pub record CanEnter (r : Reading) : Type 0 where
   pub byte : ℕ
   pub rest : List ℕ
   pub left : r.left ≡ Some (byte ∷ rest)
   pub room : (byte ≡ 0xf6) ⊎ (0 < r.steps)
 
--- something else than a null stands at the front, and a step was spent on it
+-- a byte that is not a null is at the front, and a step was spent on it
 pub record EntersSome (old new : Reading) : Type 0 where
   pub begins : (b : List ℕ) → old.left ≡ Some b → (byte : ℕ) × (rest : List ℕ) × (b ≡ byte ∷ rest)
       × (byte ≢ 0xf6)
@@ -30,13 +30,13 @@ pub record EntersSome (old new : Reading) : Type 0 where
   pub faults : new.faults ≡ old.faults
   pub through : new.through ≡ old.through
 
--- why no option is entered: no byte, or no step for another value than a null
+-- why an option is not entered: there is no byte, or no step for a value that is not null
 abbrev pub OptionCause : {E : Type 0} → DecodeError E → List ℕ → Type 0
 OptionCause (Eof name expect) b = Names name (codes "option") × (expect ≡ Small 1) × (b ≡ [])
 OptionCause (DepthOverflow name) b = Names name (codes "option")
 OptionCause _ b = ⊥
 
--- no option is entered
+-- the option is not entered
 abbrev pub RefusesToEnter : {E : Type 0} → Reading → DecodeError E → Reading → Type 0
 RefusesToEnter old e new = RefusesPlainly (CanEnter old) OptionCause old e new × NoStepIfDeep old e
 
@@ -46,13 +46,13 @@ EntersOption old result new = MatchResult result
     (λ is_null. MatchBool is_null (Takes old (0xf6 ∷ []) new) (EntersSome old new))
     (λ e. RefusesToEnter old e new)
 
--- the part after the step was refused, as its law says
+-- a step was spent, and then the part was refused as its law says
 abbrev pub RefusesPart : {V E : Type 0} → Shape Tree V → Reading → DecodeError E → Reading → Type 0
 RefusesPart shape old e new = (mid : Reading) × EntersSome old mid
     × RefusesRead (HasFront shape mid) shape mid e new
 
--- A null is read, or another value as the law of its type says. A refusal is the part's, or it came
--- before the part with its cause.
+-- A null is read, or another value as the law of its type says. A refusal is that of the part, or
+-- it came before the part, for its own cause.
 abbrev pub ReadsOption : {T V E : Type 0} → (T → V) → Shape Tree V → Reading
     → Result (Option T) (DecodeError E) → Reading → Type 0
 ReadsOption meaning shape old result new = MatchResult result

@@ -1,4 +1,4 @@
--- Streams: values one after the other.
+-- Streams: values one after another.
 use Rattle.std.specs.Prelude.{◌≡◌, ◌≢◌, ℕ, ◌+◌, ◌<◌, ◌≤◌, ◌⊎◌, Bool, true, false, List, [], ◌∷◌, length, map, Option, None, Some, Result, Ok, Err, is_err, MatchBool, MatchOption, MatchResult, IfSome, IfOk, ⊤}
 use Rattle.std.specs.Iterator.{Count, DrainsIf}
 use Rattle.dagcbor_heads.specs.Reading.{Reading}
@@ -16,8 +16,8 @@ use Rattle.dagcbor_read.specs.Whole.{IsFirst, BeginsWithNoValue}
 
 -- ---- the stream of a type on bytes
 
--- The stream of a type on bytes, where `None` stands for a refusal: nothing for no bytes; a value
--- that stands at the front, and then the stream of the rest; else one refusal, and the end.
+-- The stream of a type on bytes, with `None` for a refusal. It is empty if there are no bytes; else
+-- a value at the front, then the stream of the rest; else one refusal, and the end.
 abbrev pub AreStreamItems : {V : Type 0} → Shape Tree V → ℕ → List ℕ → List (Option V) → Type 0
 AreStreamItems shape steps b [] = b ≡ []
 AreStreamItems shape steps b (Some v ∷ items) = (rest : List ℕ) × IsFirst shape steps b v rest
@@ -25,14 +25,14 @@ AreStreamItems shape steps b (Some v ∷ items) = (rest : List ℕ) × IsFirst s
 AreStreamItems shape steps b (None ∷ items) = (items ≡ []) × (0 < length b)
     × BeginsWithNoValue shape steps b
 
--- The values are those of trees that stand one after the other at the front of the bytes, before
--- the rest, each accepted within the steps.
+-- The values are those of trees that come one after another at the front of the bytes, before the
+-- rest. Each is accepted within the steps.
 abbrev pub AreNextValues : {V : Type 0} → Shape Tree V → ℕ → List ℕ → List V → List ℕ → Type 0
 AreNextValues shape steps b [] rest = b ≡ rest
 AreNextValues shape steps b (v ∷ vs) rest = (mid : List ℕ) × IsFirst shape steps b v mid
     × AreNextValues shape steps mid vs rest
 
--- Of given bytes there is one stream at most.
+-- The same bytes have at most one stream.
 abbrev pub StreamsAreUnique : {V : Type 0} → Shape Tree V → Type 0
 StreamsAreUnique {V} shape = (steps : ℕ) (b : List ℕ) (items others : List (Option V))
     → AreStreamItems shape steps b items → AreStreamItems shape steps b others → items ≡ others
@@ -41,27 +41,27 @@ StreamsAreUnique {V} shape = (steps : ℕ) (b : List ℕ) (items others : List (
 
 -- what contracts see of a stream
 pub record StreamState : Type 0 where
-  -- what it reads from
+  -- its reader
   pub source : DeState
   -- whether an error, or the end, was met
   pub done : Bool
 
--- a stream over a reader whose reading is known
+-- the state of a stream over a reader
 abbrev pub stream_state : {R T : Type 0} → (R → Reading) → StreamDeserializer R T → StreamState
 stream_state reading s = record { source = de_state reading s.de; done = s.done }
 
 -- ---- what one call does
 
--- known bytes are left
+-- if the bytes left are known, there are some
 abbrev pub SomeLeft : Reading → Type 0
 SomeLeft r = (b : List ℕ) → r.left ≡ Some b → 0 < length b
 
--- there are some
+-- the bytes left are not empty
 abbrev pub AreSome : {E : Type 0} → DecodeError E → List ℕ → Type 0
 AreSome e b = 0 < length b
 
--- The end is found, or a value is read of the bytes that are left, or refused. A fault may come
--- before it is known whether bytes are left.
+-- The end is found; or a value is read from the bytes left, or refused. A fault may come before it
+-- is known whether bytes are left.
 abbrev pub ReadsNext : {T V E : Type 0} → (T → V) → Shape Tree V → Reading
     → Result (Option T) (DecodeError E) → Reading → Type 0
 ReadsNext meaning shape old result new = MatchResult result
@@ -73,20 +73,20 @@ ReadsNext meaning shape old result new = MatchResult result
       stands = AreSome;
     }) old e new)
 
--- what `next` gives is what reading answered, and the last but after a value
+-- the result of reading the next value, from what `next` gave
 abbrev pub as_answer : {T E : Type 0} → Option (Result T (DecodeError E))
     → Result (Option T) (DecodeError E)
 as_answer None = Ok None
 as_answer (Some (Ok v)) = Ok (Some v)
 as_answer (Some (Err e)) = Err e
 
--- whether nothing follows what was given
+-- whether nothing comes after what `next` gave
 abbrev pub is_last : {T E : Type 0} → Option (Result T (DecodeError E)) → Bool
 is_last None = true
 is_last (Some r) = is_err r
 
--- What `next` does: nothing comes of a stream that is done; else what reading the next value
--- answers.
+-- What `next` does: a stream that is done gives nothing; otherwise it gives the result of reading
+-- the next value.
 abbrev pub GivesNext : {T V E : Type 0} → (T → V) → Shape Tree V → StreamState
     → Option (Result T (DecodeError E)) → StreamState → Type 0
 GivesNext meaning shape old item new = MatchBool old.done
@@ -94,7 +94,7 @@ GivesNext meaning shape old item new = MatchBool old.done
     ((new.done ≡ is_last item)
     × Call (ReadsNext meaning shape) old.source (as_answer item) new.source)
 
--- A value that is given lies where its type says, of an input that lends or of one that does not.
+-- A value that is given is in memory where its type says, depending on whether the input lends.
 abbrev pub LiesNext : {T E : Type 0} → (Bool → T → Type 0) → StreamState
     → Option (Result T (DecodeError E)) → Type 0
 LiesNext lies old item = IfSome item (λ r. IfOk r (lies old.source.input.lends))
@@ -105,47 +105,47 @@ items_left s = items_left_of s.done s.source.input.left
 
 -- ---- what comes of runs of `next`
 
--- an error that says nothing of the bytes: a fault; want of memory, where the type may take some; or
--- a wish for a loan, where the type wants one and none is given
+-- an error that says nothing about the bytes: a fault; out of memory, if the type may take memory;
+-- or a refusal that asks for a loan, if the type wants one and the input does not lend
 abbrev pub GivesUp : {V E : Type 0} → Shape Tree V → Bool → DecodeError E → Type 0
 GivesUp shape lends (Read e) = ⊤
 GivesUp shape lends OutOfMemory = shape.memory lends ≡ true
 GivesUp shape lends (RequireBorrowed name) = (shape.wants_loan ≡ true) × (lends ≡ false)
 GivesUp shape lends _ = ⊥
 
--- an error that says nothing of the bytes stands in the place of the first of these items: but for
--- a fault there is one
+-- an error that says nothing about the bytes is in the place of the first of these items; unless it
+-- is a fault, there is such an item
 abbrev pub GivesUpAt : {V E : Type 0} → Shape Tree V → Bool → List (Option V) → DecodeError E
     → Type 0
 GivesUpAt shape lends items (Read e) = ⊤
 GivesUpAt shape lends items e = GivesUp shape lends e × (items ≢ [])
 
--- no error is one that says nothing of the bytes
+-- no error says nothing about the bytes
 abbrev pub NoneGivesUp : {T V E : Type 0} → Shape Tree V → Bool → List (Result T (DecodeError E))
     → Type 0
 NoneGivesUp shape lends [] = ⊤
 NoneGivesUp shape lends (Ok v ∷ xs) = NoneGivesUp shape lends xs
 NoneGivesUp shape lends (Err e ∷ xs) = (¬ GivesUp shape lends e) × NoneGivesUp shape lends xs
 
--- after an error nothing comes
+-- nothing comes after an error
 abbrev pub EndsAtError : {T E : Type 0} → List (Result T (DecodeError E)) → Type 0
 EndsAtError [] = ⊤
 EndsAtError (Ok v ∷ xs) = EndsAtError xs
 EndsAtError (Err e ∷ xs) = xs ≡ []
 
--- what an item is in the stream of the type
+-- the item of the stream that a result is
 abbrev pub stream_item : {T V E : Type 0} → (T → V) → Result T (DecodeError E) → Option V
 stream_item meaning (Ok v) = Some (meaning v)
 stream_item meaning (Err e) = None
 
--- what came before the first error
+-- the values before the first error
 abbrev pub values_before : {T V E : Type 0} → (T → V) → List (Result T (DecodeError E)) → List V
 values_before meaning [] = []
 values_before meaning (Ok v ∷ xs) = meaning v ∷ values_before meaning xs
 values_before meaning (Err e ∷ xs) = []
 
--- What came, of an input that lends or of one that does not, is the stream's items, to the last
--- where it is whole; or up to one in whose place an error came that says nothing of the bytes.
+-- What came is the stream's items: all of them if the run is whole. Or they go up to an item in
+-- whose place an error came that says nothing about the bytes.
 abbrev pub AreUpTo : {T V E : Type 0} → (T → V) → Shape Tree V → (lends whole : Bool)
     → List (Result T (DecodeError E)) → List (Option V) → Type 0
 AreUpTo meaning shape lends whole [] items = whole ≡ true → items ≡ []
@@ -154,7 +154,7 @@ AreUpTo {T} {V} meaning shape lends whole (Ok v ∷ xs) items = (more : List (Op
 AreUpTo meaning shape lends whole (Err e ∷ xs) items = (xs ≡ [])
     × (GivesUpAt shape lends items e ⊎ (items ≡ None ∷ []))
 
--- a stream, not done, over known bytes, of what has not failed
+-- a stream over known bytes that is not done, and has not failed
 pub record IsOver (b : List ℕ) (s : StreamState) : Type 0 where
   pub goes_on : s.done ≡ false
   pub sound : s.source.failed ≡ false
@@ -171,23 +171,23 @@ module _ {S T V : Type 0} (E : Type 0) (see : S → StreamState) (meaning : T �
     pub one_error : EndsAtError xs
     -- of n known bytes at most n + 1 items came
     pub bounded : (b : List ℕ) → IsOver b (see s) → length xs ≤ length b + 1
-    -- however the run ended, the values stood one after the other at the front of the bytes
+    -- however the run ended, the values came one after another at the front of the bytes
     pub values : (b : List ℕ) → IsOver b (see s) → (rest : List ℕ)
         × AreNextValues shape (see s).source.input.steps b (values_before meaning xs) rest
     -- they are the stream of the type on the bytes, up to an error that says nothing of the bytes
     pub same : (b : List ℕ) → IsOver b (see s) → (items : List (Option V))
         → AreStreamItems shape (see s).source.input.steps b items
         → AreUpTo meaning shape (see s).source.input.lends whole xs items
-    -- where no such error came, and all came, they make a stream
+    -- if no such error came, and the run is whole, they are a stream of the type
     pub exact : (b : List ℕ) → IsOver b (see s) → whole ≡ true
         → NoneGivesUp shape (see s).source.input.lends xs
         → AreStreamItems shape (see s).source.input.steps b (map (stream_item meaning) xs)
-    -- of what had failed comes `Failed` alone
+    -- if a call had failed before, only `Failed` comes
     pub failed : (see s).done ≡ false → (see s).source.failed ≡ true → whole ≡ true
         → xs ≡ Err Failed ∷ []
 
-  -- Whatever came of calls of `next`, and of one more that gave nothing where the run is whole, is
-  -- so.
+  -- This holds of whatever calls of `next` gave, followed by one that gave nothing if the run is
+  -- whole.
   abbrev pub StreamsAreExact : Type 0
   StreamsAreExact = (s : S) (whole : Bool) (xs : List (Result T (DecodeError E)))
       → DrainsIf Gives (whole ≡ true) s xs → IsStreamRun s whole xs

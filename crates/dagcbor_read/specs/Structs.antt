@@ -1,4 +1,4 @@
--- What a map's entries show to a struct, whose fields have a place each.
+-- The view that a struct has of a map's entries. Each field has a place.
 use Rattle.std.specs.Prelude.{◌||◌, ℕ, List, [], ◌∷◌, map, Option, None, Some, option_map, option_and_then, if◌then◌else◌, false, bytes_eq}
 use Rattle.std.specs.Option.{option_flatten}
 use Rattle.std.specs.Borrow.{Bor}
@@ -6,7 +6,7 @@ use Rattle.ipld_tree.specs.Tree.{Tree, any_need}
 use Rattle.dagcbor_items.specs.Shapes.{Shape, option_of, takes_none, unless_lent}
 use Rattle.dagcbor_read.specs.Collections.{FieldShape, struct_of}
 
--- the texts after references
+-- the texts that references point to
 abbrev pub texts : List (Bor (List ℕ)) → List (List ℕ)
 texts = map (λ s. s.now)
 
@@ -29,7 +29,7 @@ place name shape others = record {
   memory = λ lends. shape.memory lends || others.memory lends;
 }
 
--- a place that has no name: nothing goes to it
+-- a place without a name: nothing goes to it
 abbrev pub unnamed_place : {V S : Type 0} → FieldShape S → FieldShape (Option V × S)
 unnamed_place others = record {
   take = λ s k t. option_map (λ o. (s.0, o)) (others.take s.1 k t);
@@ -38,7 +38,7 @@ unnamed_place others = record {
   memory = others.memory;
 }
 
--- places that are named in their order
+-- places with these names, in order
 abbrev pub places : {V S : Type 0} → Shape Tree V → (List (List ℕ) → FieldShape S) → List (List ℕ)
     → FieldShape (Option V × S)
 places shape others [] = unnamed_place (others [])
@@ -46,27 +46,27 @@ places shape others (name ∷ names) = place name shape (others names)
 
 -- ---- structs
 
--- The shape of a struct's fields: what their places take, and what they hold once all were read.
+-- The shape of a struct's fields: what their places take, and the view once all were read.
 pub record StructShape (S V : Type 0) : Type 0 where
   pub fields : FieldShape S
-  -- before any was read
+  -- the state before any was read
   pub unread : S
-  -- none where one is missing
+  -- `None` if a field is missing
   pub finish : S → Option V
 
 -- a struct, read from a map by its row of fields
 abbrev pub struct_shape : {S V : Type 0} → StructShape S V → Shape Tree V
 struct_shape s = struct_of s.fields s.unread s.finish
 
--- a row of no fields
+-- a row of no fields; any other key is skipped
 abbrev pub no_fields : StructShape (Unit {0}) (Unit {0})
 no_fields = record { fields = no_places; unread = tt; finish = Some }
 
--- a row of no fields, in a map that has no others
+-- a row of no fields; any other key is refused
 abbrev pub no_other_fields : StructShape (Unit {0}) (Unit {0})
 no_other_fields = record { fields = no_other_places; unread = tt; finish = Some }
 
--- the first is there, and so are the others
+-- the view, if the first field is there and the others have a view
 abbrev pub finish_required : {V S W : Type 0} → (S → Option W) → Option V × S → Option (V × W)
 finish_required others s = option_and_then (λ v. option_map (λ w. (v, w)) (others s.1)) s.0
 
@@ -79,7 +79,7 @@ required_field name shape others = record {
   finish = finish_required others.finish;
 }
 
--- the first may be absent
+-- the first field may be absent
 abbrev pub finish_optional : {V S W : Type 0} → (S → Option W) → Option (Option V) × S
     → Option (Option V × W)
 finish_optional others s = option_map (λ w. (option_flatten s.0, w)) (others s.1)
@@ -93,7 +93,7 @@ optional_field name shape others = record {
   finish = finish_optional others.finish;
 }
 
--- the first may be absent
+-- the first field may be absent
 abbrev pub finish_omissible : {V S W : Type 0} → (S → Option W) → Option V × S
     → Option (Option V × W)
 finish_omissible others s = option_map (λ w. (s.0, w)) (others s.1)

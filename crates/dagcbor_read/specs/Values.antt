@@ -1,4 +1,4 @@
--- The law of a type that is read, and what a call says that reads a value by it.
+-- The law of a type that is read, and what a call does that reads a value by this law.
 use Rattle.std.specs.Prelude.{◌≡◌, ℕ, List, Some, true, false, Result, Err, IfErr, MatchResult}
 use Rattle.dagcbor_heads.specs.Reading.{Reading}
 use Rattle.dagcbor_core.specs.declared.error.DecodeError.{DecodeError}
@@ -7,7 +7,7 @@ use Rattle.dagcbor_items.specs.TypedReads.{RefusesRead, Reads, HasFront, TakesFr
 use Rattle.dagcbor_read.specs.Deserializers.{DeState}
 use Rattle.dagcbor_items.specs.Shapes.{Shape}
 
--- The law of a type, of a Deserializer that has not failed. After an answer nothing has failed.
+-- The law of a type, for a Deserializer that has not failed. After a success nothing has failed.
 abbrev pub ReadsValue : {T V E : Type 0} → (T → V) → Shape Tree V → DeState
     → Result T (DecodeError E) → DeState → Type 0
 ReadsValue meaning shape old result new = old.failed ≡ false → MatchResult result
@@ -19,8 +19,8 @@ abbrev pub ReadsPart : {T V E : Type 0} → (T → V) → Shape Tree V → Readi
     → Result T (DecodeError E) → Reading → Type 0
 ReadsPart meaning shape old = Reads meaning shape (MayLack shape.memory old) (shape.wants_loan ≡ true) Anything old
 
--- Where a value of several parts cannot be begun on bytes that are known, the refusal is that of
--- the call that begins it.
+-- If the bytes are known, and a value of several parts cannot be begun, its refusal is that of the
+-- call that begins it.
 abbrev pub RefusesToBegin : {T A E : Type 0} → (Reading → Type 0)
     → (Reading → Result A (DecodeError E) → Reading → Type 0) → DeState → Result T (DecodeError E)
     → DeState → Type 0

@@ -1,4 +1,4 @@
-//! Lists, maps and enums, item by item and whole.
+//! Reading lists, maps and enums, item by item or whole.
 
 pub(crate) mod accessor;
 pub(crate) mod enum_accessor;

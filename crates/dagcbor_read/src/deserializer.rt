@@ -1,4 +1,4 @@
-//! The reader's state between calls.
+//! The `Deserializer`: a reader, and whether a call was refused.
 
 ghost use Rattle.std.specs.Prelude.{◌≡◌, [], false, true, MatchResult, Some, IfErr, ◌+◌, ◌≤◌, ◌^◌};
 ghost use Rattle.std.specs.Prelude.{◌<◌, IfNone};
@@ -49,8 +49,8 @@ use ipld_tree::{Cid, Ipld};
 use std::alloc::Global;
 use std::borrow::{CowSlice, CowStr};
 
-/// What is read, if nothing was refused so far; else the function answers `Failed`. A refusal also
-/// ends the function, and is remembered.
+/// Evaluates `$read` if no call was refused so far, and otherwise returns `Failed`. A refusal also
+/// returns from the function, and is remembered.
 macro_rules! call {
     ($de:ident, $read:expr) => {{
         $de.begin()?;
@@ -60,8 +60,8 @@ macro_rules! call {
     }};
 }
 
-/// Reads values from a slice, which lends its bytes, or from another reader. After a refusal, other
-/// than `TrailingData`, each later reading call answers `Failed`.
+/// Reads values from a slice, which lends its bytes, or from another reader. After any refusal but
+/// `TrailingData`, each later reading call returns `Failed`.
 #[derive(Drop)]
 pub struct Deserializer<'de, R> {
     pub(crate) input: Input<'de, R>,
@@ -69,7 +69,7 @@ pub struct Deserializer<'de, R> {
 }
 
 impl<'de> Deserializer<'de, SliceReader<'de>> {
-    /// Reads from the slice, whose bytes are lent, with a budget of `DEFAULT_STEPS`.
+    /// Reads from the slice with a budget of `DEFAULT_STEPS`. The bytes are lent.
     pub fn from_slice(bytes: &'de [u8]) -> Deserializer<'de, SliceReader<'de>>
         ensures { de_state (λ r. r) result ≡ record {
           input = fresh_reading (Some bytes.now) default_steps true [];
@@ -79,7 +79,7 @@ impl<'de> Deserializer<'de, SliceReader<'de>> {
         Deserializer::from_slice_reader(SliceReader::new(bytes))
     }
 
-    /// Reads from what the reader of a slice has left, with the steps that it has. The bytes are
+    /// Reads the bytes that a slice reader has left, with the steps it has left. The bytes are
     /// lent.
     pub fn from_slice_reader(reader: SliceReader<'de>) -> Deserializer<'de, SliceReader<'de>>
         ensures { de_state (λ r. r) result ≡ record { input = reader.entry; failed = false } }
@@ -92,7 +92,7 @@ impl<'de> Deserializer<'de, SliceReader<'de>> {
 }
 
 impl<'de, R: Read> Deserializer<'de, R> {
-    /// Reads from the reader, whose bytes are not lent.
+    /// Reads from the reader. Its bytes are not lent.
     pub fn from_reader(reader: R) -> Deserializer<'de, R>
         ensures { de_state R.reading
             result ≡ record { input = not_lending (R.reading reader); failed = false } }
@@ -103,14 +103,14 @@ impl<'de, R: Read> Deserializer<'de, R> {
         }
     }
 
-    /// DAG-CBOR is a binary format.
+    /// Returns false: DAG-CBOR is a binary format.
     pub fn is_human_readable(&self) -> bool
         ensures { result ≡ false }
     {
         false
     }
 
-    /// Until the call returns, it counts as refused.
+    /// Checks that no call was refused so far. Marks this one as refused until it returns.
     pub(crate) fn begin(&mut self) -> ReadResult<(), R>
         ensures { MatchResult result
             (λ _. ((de_state R.reading self.old).failed ≡ false)
@@ -124,7 +124,7 @@ impl<'de, R: Read> Deserializer<'de, R> {
         Ok(())
     }
 
-    /// The kind of the item here, by its first byte, which is not taken.
+    /// Returns the kind of the next item from its first byte, which is not taken.
     pub fn peek_kind(&mut self) -> ReadResult<Kind, R>
         ensures kind { Over R.reading (Call PeeksKind) self.old result self.new }
         ensures variant { IfErr result OfPeek }
@@ -135,7 +135,7 @@ impl<'de, R: Read> Deserializer<'de, R> {
         Ok(kind_at(first))
     }
 
-    /// Reads an item of any kind, no deeper than the steps that are left.
+    /// Reads an item of any kind, no deeper than the steps left.
     pub fn deserialize_any(&mut self, alloc: Global) -> ReadResult<Ipld, R>
         ensures item { Over R.reading (Call ReadsItem) self.old result self.new }
         ensures looked { LooksAtAny (de_state R.reading self.old).input result
@@ -162,8 +162,8 @@ impl<'de, R: Read> Deserializer<'de, R> {
         Ok(call!(self, pull_link(&mut self.input)))
     }
 
-    /// Whether the input ends here: `TrailingData` if a byte is left. The byte stays, and reading
-    /// may go on.
+    /// Checks that the input ends here. If a byte is left, it returns `TrailingData`. The byte
+    /// stays, and reading may go on.
     pub fn end(&mut self) -> ReadResult<(), R>
         ensures end { Over R.reading Ends self.old result self.new }
         ensures looked { LooksOnce (de_state R.reading self.old).input
@@ -292,7 +292,7 @@ impl<'de, R: Read> Deserializer<'de, R> {
         Ok(self.signed("i64", 0x7fff_ffff_ffff_ffff)? as i64)
     }
 
-    /// Reads any number from 0 on, but no tagged one.
+    /// Reads any number that is not negative, but no tagged bignum.
     pub fn deserialize_u128(&mut self) -> ReadResult<u128, R>
         ensures number { Over R.reading (Call ReadsU128) self.old result self.new }
         ensures variant { IfErr result OfNumber }
@@ -302,7 +302,7 @@ impl<'de, R: Read> Deserializer<'de, R> {
         Ok(call!(self, pull_u128(&mut self.input)))
     }
 
-    /// Reads any number, but no tagged one.
+    /// Reads any number, but no tagged bignum.
     pub fn deserialize_i128(&mut self) -> ReadResult<i128, R>
         ensures number { Over R.reading (Call ReadsI128) self.old result self.new }
         ensures variant { IfErr result OfHead }
@@ -322,7 +322,7 @@ impl<'de, R: Read> Deserializer<'de, R> {
         Ok(call!(self, pull_null(&mut self.input)))
     }
 
-    /// As `deserialize_unit`, whatever the name.
+    /// Does what `deserialize_unit` does. The name is not used.
     pub fn deserialize_unit_struct(&mut self, _name: &str) -> ReadResult<(), R>
         ensures null { Over R.reading (Call ReadsNull) self.old result self.new }
         ensures variant { IfErr result OfByte }
@@ -356,7 +356,7 @@ impl<'de, R: Read> Deserializer<'de, R> {
         Ok(call!(self, pull_str(alloc, "string", &mut self.input)))
     }
 
-    /// As `deserialize_str`.
+    /// Does what `deserialize_str` does.
     pub fn deserialize_identifier(&mut self, alloc: Global) -> ReadResult<CowStr<'de>, R>
         ensures text { Over R.reading (Call (ReadsStr (codes "string"))) self.old result self.new }
         ensures lent { IfOk result
@@ -420,7 +420,7 @@ impl<'de, R: Read> Deserializer<'de, R> {
         Ok(call!(self, pull_char(alloc, &mut self.input)))
     }
 
-    /// Nothing was refused so far.
+    /// Checks that no call was refused so far.
     pub(crate) fn check(&self) -> ReadResult<(), R>
         ensures { MatchResult result
             (λ _. (de_state R.reading self.now).failed ≡ false)
@@ -432,7 +432,8 @@ impl<'de, R: Read> Deserializer<'de, R> {
         Ok(())
     }
 
-    /// A key after the one before it: one of the names, if it is at hand.
+    /// Reads a key that comes after the last one. One of the names takes no memory if a slice has
+    /// it whole.
     pub(crate) fn read_key(
         &mut self,
         alloc: Global,
@@ -454,7 +455,7 @@ impl<'de, R: Read> Deserializer<'de, R> {
         Ok(key)
     }
 
-    /// A key after the one before it, twice.
+    /// Reads a key that comes after the last one, and returns it twice.
     pub(crate) fn read_key_after(
         &mut self,
         alloc: Global,
@@ -479,7 +480,7 @@ impl<'de, R: Read> Deserializer<'de, R> {
         Ok((key, copy))
     }
 
-    /// Begins a list (4) or map (5). Its end gives back its own step, and so many more.
+    /// Begins a list (4) or map (5). Its end gives back its own step, and `more` others.
     #[inline(always)]
     pub(crate) fn begin_items(
         &mut self,
@@ -499,7 +500,7 @@ impl<'de, R: Read> Deserializer<'de, R> {
         Ok(Accessor::new(Name::new(name), major == 5, count as usize, steps))
     }
 
-    /// Begins a list. Takes no memory.
+    /// Begins a list. It takes no memory.
     #[inline(always)]
     pub fn deserialize_seq(&mut self) -> ReadResult<Accessor<'de>, R>
         ensures begun { Over R.reading
@@ -511,7 +512,7 @@ impl<'de, R: Read> Deserializer<'de, R> {
         self.begin_items("array", 4, 0)
     }
 
-    /// Begins a list for a tuple. The length is not looked at. Takes no memory.
+    /// Begins a list for a tuple. The length is not used. It takes no memory.
     pub fn deserialize_tuple(&mut self, _len: usize) -> ReadResult<Accessor<'de>, R>
         ensures begun { Over R.reading
             (Call (BeginsItems 4 (codes "tuple") 1)) self.old result self.new }
@@ -522,7 +523,7 @@ impl<'de, R: Read> Deserializer<'de, R> {
         self.begin_items("tuple", 4, 0)
     }
 
-    /// Begins a list for a tuple struct. The length is not looked at. Takes no memory.
+    /// Begins a list for a tuple struct. The length is not used. It takes no memory.
     pub fn deserialize_tuple_struct(
         &mut self,
         name: &str,
@@ -536,7 +537,7 @@ impl<'de, R: Read> Deserializer<'de, R> {
         self.begin_items(name, 4, 0)
     }
 
-    /// Begins a map. Takes no memory.
+    /// Begins a map. It takes no memory.
     pub fn deserialize_map(&mut self) -> ReadResult<Accessor<'de>, R>
         ensures begun { Over R.reading
             (Call (BeginsItems 5 (codes "map") 1)) self.old result self.new }
@@ -547,7 +548,7 @@ impl<'de, R: Read> Deserializer<'de, R> {
         self.begin_items("map", 5, 0)
     }
 
-    /// Begins a map for a struct. The names of the fields are not looked at. Takes no memory.
+    /// Begins a map for a struct. The names of the fields are not used. It takes no memory.
     pub fn deserialize_struct(
         &mut self,
         name: &str,
@@ -569,7 +570,7 @@ impl<'de, R: Read> Deserializer<'de, R> {
         Ok(call!(self, enter_option(&mut self.input)))
     }
 
-    /// Reads a value as its type does, and remembers a refusal of the type's own.
+    /// Reads a value as its type does, and remembers a refusal.
     #[inline(always)]
     pub(crate) fn read_part<T: Deserialize<'de>>(&mut self, alloc: Global) -> ReadResult<T, R>
         ensures part { Over R.reading
@@ -587,7 +588,7 @@ impl<'de, R: Read> Deserializer<'de, R> {
         }
     }
 
-    /// Reads the one part of a struct, whatever its name.
+    /// Reads the one part of a struct. The name is not used.
     pub fn deserialize_newtype_struct<T: Deserialize<'de>>(
         &mut self,
         alloc: Global,
@@ -601,7 +602,7 @@ impl<'de, R: Read> Deserializer<'de, R> {
         self.read_part(alloc)
     }
 
-    /// A null is `None`. Another value takes a step, and is looked at as often as its type looks.
+    /// Reads a null as `None`. Any other value takes a step, and as many looks as its type takes.
     pub fn deserialize_option<T: Deserialize<'de>>(
         &mut self,
         alloc: Global,
@@ -623,7 +624,8 @@ impl<'de, R: Read> Deserializer<'de, R> {
         Ok(Some(value))
     }
 
-    /// Begins an enum, for a step. The names of its variants are not looked at. Takes no memory.
+    /// Begins an enum, which takes a step. The names of its variants are not used. It takes no
+    /// memory.
     pub fn deserialize_enum(
         &mut self,
         name: &str,
@@ -637,7 +639,7 @@ impl<'de, R: Read> Deserializer<'de, R> {
         Ok(call!(self, spend_form(name, &mut self.input)))
     }
 
-    /// Skips an item of any kind. It refuses what `deserialize_any` refuses. Over a slice it takes
+    /// Skips an item of any kind. It rejects what `deserialize_any` rejects. Over a slice it takes
     /// no memory.
     pub fn deserialize_ignored_any(&mut self, alloc: Global) -> ReadResult<(), R>
         ensures item { Over R.reading (Call ReadsIgnored) self.old result self.new }
@@ -648,8 +650,8 @@ impl<'de, R: Read> Deserializer<'de, R> {
         Ok(call!(self, skip_any(alloc, &mut self.input)))
     }
 
-    /// Reads an item of any kind, and keeps only its links: left to right, with repeats. It refuses
-    /// what `deserialize_any` refuses.
+    /// Reads an item of any kind, and keeps only its links: left to right, with repeats. It rejects
+    /// what `deserialize_any` rejects.
     pub fn deserialize_links(&mut self, alloc: Global) -> ReadResult<Vec<Cid>, R>
         ensures links { Over R.reading (Call GathersLinks) self.old result self.new }
         ensures looked { LooksAtAny (de_state R.reading self.old).input result
@@ -659,7 +661,7 @@ impl<'de, R: Read> Deserializer<'de, R> {
         Ok(call!(self, gather_links(alloc, &mut self.input)))
     }
 
-    /// The values that are left in the input.
+    /// Returns an iterator over the values left in the input.
     pub fn into_iter<T: Deserialize<'de>>(self, alloc: Global) -> StreamDeserializer<'de, R, T>
         ensures { stream_state R.reading
             result ≡ record { source = de_state R.reading self.entry; done = false } }
@@ -667,7 +669,7 @@ impl<'de, R: Read> Deserializer<'de, R> {
         StreamDeserializer::new(alloc, self)
     }
 
-    /// Reads a value, if the input does not end here. No byte is taken to see this.
+    /// Reads a value, or returns `None` if the input ends here. Finding the end takes no byte.
     pub(crate) fn next_value<T: Deserialize<'de>>(
         &mut self,
         alloc: Global,
@@ -699,7 +701,7 @@ fn enter<R: Read>(name: &str, reader: &mut R, major: u8) -> ReadResult<u64, R>
     Ok(count)
 }
 
-/// Takes a null, if there is one. Else spends a step. Answers whether there was.
+/// Takes a null and returns true, or spends a step and returns false if the value is not null.
 fn enter_option<R: Read>(reader: &mut R) -> ReadResult<bool, R>
     ensures entered { EntersOption (R.reading reader.old) result (R.reading reader.new) }
     ensures looked { LooksAtFirst (λ is_null. is_null) (R.reading reader.old) result

@@ -14,8 +14,8 @@ use std::alloc::Global;
 use std::io;
 use std::io::BufRead;
 
-/// The value whose spelling is all of the source's bytes. It answers a value exactly if
-/// `from_slice` does, with the same view, if the source does not fault.
+/// Reads the value whose spelling is all of the source's bytes. If the source does not fault, it
+/// returns a value exactly if `from_slice` does, with the same view.
 ///
 /// ```rust
 /// let source = BufReader::new(rt.alloc(), File::open(&rt, "ferris.cbor")?)?;
@@ -41,8 +41,8 @@ pub fn from_reader<'de, T: DeserializeOwned<'de>, R: BufRead + Drop>(
     Ok(value)
 }
 
-/// The value with whose spelling the source begins. The source then has exactly what follows it
-/// left. Nothing is said of what is left after a refusal.
+/// Reads the value whose spelling the source begins with. The source is then left with exactly the
+/// bytes after it. After a refusal, nothing is known of the bytes left.
 ///
 /// ```rust
 /// let mut source = device.as_slice();

@@ -1,4 +1,4 @@
-//! Streams: values one after the other, up to the end of the input.
+//! Streams: values one after another, up to the end of the input.
 
 ghost use Rattle.std.specs.Prelude.{◌≡◌, [], false};
 ghost use Rattle.dagcbor_core.specs.Steps.{default_steps};
@@ -13,8 +13,8 @@ use std::alloc::Global;
 use std::io::BufRead;
 use std::marker::PhantomData;
 
-/// The values in an input, one after the other. After an error, and after the end, nothing more
-/// comes.
+/// An iterator over the values in an input, one after another. It gives nothing after an error, or
+/// after the end.
 #[derive(Drop)]
 pub struct StreamDeserializer<'de, R, T> {
     alloc: Global,
@@ -24,7 +24,7 @@ pub struct StreamDeserializer<'de, R, T> {
 }
 
 impl<'de, R: Read, T: Deserialize<'de>> StreamDeserializer<'de, R, T> {
-    /// The values that are left in the input.
+    /// Returns an iterator over the values left in the input.
     pub fn new(alloc: Global, de: Deserializer<'de, R>) -> StreamDeserializer<'de, R, T>
         ensures { stream_state R.reading
             result ≡ record { source = de_state R.reading de.entry; done = false } }
@@ -41,11 +41,12 @@ impl<'de, R: Read, T: Deserialize<'de>> StreamDeserializer<'de, R, T> {
 impl<'de, R: Read, T: Deserialize<'de>> Iterator for StreamDeserializer<'de, R, T> {
     type Item = ReadResult<T, R>;
 
-    // Nothing of a stream that is done; else what reading the next value answers.
+    // A stream that is done gives nothing. Otherwise `next` gives the result of reading the next
+    // value.
     ghost next_gives = { λ old item new. GivesNext T.meaning T.shape (stream_state R.reading old) item (stream_state R.reading new)
         × LiesNext T.lies (stream_state R.reading old) item };
 
-    // Of n bytes at most n + 1 items, since a value takes a byte.
+    // There are at most n + 1 items in n bytes, because a value takes at least a byte.
     ghost remaining = { λ s. items_left (stream_state R.reading s) };
 
     fn next(&mut self) -> Option<ReadResult<T, R>> {
@@ -58,7 +59,7 @@ impl<'de, R: Read, T: Deserialize<'de>> Iterator for StreamDeserializer<'de, R, 
     }
 }
 
-/// The values in the source.
+/// Returns an iterator over the values in the source.
 ///
 /// ```rust
 /// let source = b"\x66foobar\x63baz".as_slice();

@@ -1,4 +1,4 @@
-//! What types of the library are read.
+//! How types of the library are read.
 
 pub(crate) mod data;
 pub(crate) mod holders;

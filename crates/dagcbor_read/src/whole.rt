@@ -14,7 +14,7 @@ use dagcbor_heads::SliceReader;
 use std::alloc::Global;
 use std::convert::Infallible;
 
-/// The value whose spelling is these bytes.
+/// Reads the value whose spelling is these bytes.
 ///
 /// ```rust
 /// let block = to_vec(alloc, &(-300i16, "a"))?;
@@ -38,8 +38,8 @@ pub fn from_slice<'a, T: Deserialize<'a>>(
     from_slice_with_depth(alloc, bytes, DEFAULT_STEPS)
 }
 
-/// Reads a whole slice within a budget of so many steps, at most 1,024. Each list or map takes a
-/// step or two, and needs stack (SECURITY.md).
+/// Reads a whole slice within a budget of `steps`, at most 1,024. Each list or map takes a step or
+/// two, and stack (SECURITY.md).
 ///
 /// ```rust
 /// let nested = b"\x81\x81\x01";
@@ -71,7 +71,7 @@ pub fn from_slice_with_depth<'a, T: Deserialize<'a>>(
     result
 }
 
-/// As `from_slice`, from bytes that need not outlive the value.
+/// Does what `from_slice` does, from bytes that need not outlive the value.
 pub fn from_slice_owned<'de, T: DeserializeOwned<'de>>(
     alloc: Global,
     bytes: &[u8],

@@ -1,4 +1,4 @@
--- A map of a tag and of what it tells, read entry by entry.
+-- A map of a tag and of the content that it tells, read entry by entry.
 use Rattle.std.proofs.Common.{◌≡◌, ℕ, ◌+◌, ◌-◌, ◌<◌, ◌≤◌, Bool, true, false, List, ◌++◌, refl, sym, ap, ap₂, ◌∙◌, subst, arith, append_assoc, zero-le, Option, None, Some, is_some, option_map, Result, Ok, Err, IsErrAnd, MatchResult, if◌then◌else◌, bytes_eq, codes}
 use Rattle.std.proofs.lemmas.Slice.Eq.{bytes_eq-Decides}
 use Rattle.std.specs.Prelude.{⊤}
@@ -33,7 +33,7 @@ use Rattle.dagcbor_schema.specs.Envelopes.{view_envelope, need_envelope, envelop
 
 -- ---- a key that is known beforehand
 
--- none was left, or it was another
+-- no key was left, or it was another key
 pub key_refused_by_name : {E : Type 0} (L B : Type 0) (name : List ℕ) (before : AccessorState) (old new : Reading) (message : Name) (e : DecodeError E) → e ≡ Msg message → new.faults ≡ old.faults → (HasNamedKey name before old → ⊥)
     → Refuses (record { could = HasNamedKey name before old; lacks = L; borrows = B; stands = Anything }) old e new
 key_refused_by_name {E} L B name before old new message e is same never = subst (λ x. Refuses {E = E} (record { could = HasNamedKey name before old; lacks = L; borrows = B; stands = Anything }) old x new) (sym is) (same, never, λ b l. tt)
@@ -45,7 +45,7 @@ other_key {name} {key} {before} {old} {mid} a n h =
     let is : key ≡ h.has.key = cc same.0 in
     n (is ∙ h.is)
 
--- ---- what stands there
+-- ---- what is at the front
 
 then_some : {V : Type 0} (b : Bool) (o : Option V) → is_some (if b then o else None) ≡ true → (b ≡ true) × (is_some o ≡ true)
 then_some true o a = (refl, a)
@@ -290,7 +290,7 @@ module _ {V : Type 0} (tag content : List ℕ) (shape : EnumShape V) where
   pub at_held : (E : Type 0) {name : List ℕ} {old mid now : DeState} {before entries : AccessorState} → AtSecondKey name old before mid → ReadsNamedKey {E = E} content before mid (Ok tt) entries now → AtHeld name old entries now
   at_held E {name} {old} {mid} {now} {before} {entries} s h = record { before = before; mid = mid; begun = s; key = h.3; follows = h.2; after = h.4; some = h.1; sound = h.0 }
 
-  -- ---- what stands there then
+  -- ---- what is at the front then
 
   same_begun : {old now : DeState} {entries : AccessorState} → AtFirstKey old entries now → SameReader old.input now.input
   same_begun s = record { faults = s.enters.takes.same.faults; lends = s.enters.takes.same.lends }
@@ -368,7 +368,7 @@ module _ {V : Type 0} (tag content : List ℕ) (shape : EnumShape V) where
       let last : end.left ≡ entries.left = ap (λ (c : AccessorState). c.left) after in
       absurd (omega (arith, two, first, same, second, last, q.0)))
 
-  -- ---- the answer
+  -- ---- the result
 
   pub envelope_read : (E : Type 0) {T : Type 0} {name text' : List ℕ} {old mid now : DeState} {entries : AccessorState} (meaning : T → V) (v : T) (end : AccessorState) (new : DeState) → text' ≡ name → AtHeld name old entries mid
       → ReadsValue {E = E} meaning (part_of shape text') mid (Ok v) now → end ≡ with_value entries → Call (EndsItems {E = E} end) now (Ok tt) new
@@ -408,7 +408,7 @@ module _ {V W : Type 0} (shape : EnumShape V) (f : W → V) (own : Shape Tree W)
       (λ i. front_as f own (part_of shape name) same much (subst (λ x. HasFront (part_of shape x) old.input) is i)) (may old.input.lends) lent (λ b l g. tt)
       (call_told (ReadsPart meaning own) old new (Err r) sound h).1
 
--- by what was shown, and by what was refused, where the type's meaning is not named
+-- from what was shown, and from what was refused, without naming the type's meaning
 module _ {V W : Type 0} (shape : EnumShape V) (f : W → V) (own : Shape Tree W) (E T : Type 0) where
   pub content_shown : (old new : DeState) {k : List ℕ} (name : List ℕ) (w : T) (shown : W) → k ≡ name → ((t : Tree) → shape.part name t ≡ option_map f (own.view t)) → ((t : Tree) → shape.need name t ≡ own.need t)
       → old.failed ≡ false → Call {E = E} (λ old r new. MatchResult r (λ v. TakesFront own old shown new) (λ e. ⊤)) old (Ok w) new
@@ -418,7 +418,7 @@ module _ {V W : Type 0} (shape : EnumShape V) (f : W → V) (own : Shape Tree W)
       let takes = takes_as f own (part_of shape name) same much r.2 in
       (r.1, subst (λ x. TakesFront (part_of shape x) old.input (f shown) new.input) (sym is) takes)
 
-  -- which `?` hands on
+  -- which `?` passes on
   pub content_handed_on : {U : Type 0} (P : U → Type 0) (borrows : Type 0) (old new : DeState) {k : List ℕ} (name : List ℕ) (r : DecodeError E) (result : Result U (DecodeError E)) → IsErrAnd result (λ y. y ≡ r) → k ≡ name
       → ((t : Tree) → shape.part name t ≡ option_map f (own.view t)) → ((t : Tree) → shape.need name t ≡ own.need t) → (own.wants_loan ≡ true → borrows) → ((lends : Bool) → own.memory lends ≡ true → shape.memory lends ≡ true) → old.failed ≡ false
       → Call {T = T} (λ old r new. MatchResult r (λ v. ⊤) (λ e. RefusesRead (HasFront own old) own old e new)) old (Err r) new

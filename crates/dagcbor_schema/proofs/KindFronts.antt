@@ -75,7 +75,7 @@ module _ {V W : Type 0} {kind : Kind} {f : V → W} {part : Shape Tree V} {whole
       refusal_carried Anything Anything old.input mid.input new e (same_reader s.same) (kind_front s)
       (λ x. p.memory old.input.lends (ap part.memory (sym s.same.lends) ∙ x)) p.loan (λ b l g. tt) (r k.1)
 
--- a byte stands where an item does
+-- if an item is at the front, so is a byte
 pub front_byte : {r : Reading} {b rest : List ℕ} {t : Tree} → r.left ≡ Some b → IsFront b t rest → HasByte r
 front_byte {r} {b} {rest} {t} l f =
     let k = front_first b rest t f in
@@ -157,7 +157,7 @@ module _ {B I T Y L M K : Type 0} (s : KindShapes B I T Y L M K) where
   null_shows_nothing : (t : Tree) → kind_of t ≡ kinds.Null → is_some (view_by_kind s t) ≡ true → ⊥
   null_shows_nothing t e a = let none : true ≡ false = sym a ∙ ap is_some (told_of kinds.Null t e) in absurd (cc none)
 
-  -- a null stands at the front
+  -- a null is at the front
   pub null_refused : {E : Type 0} {old mid : Reading} (L B : Type 0) (new : Reading) (message : Name) (e : DecodeError E) → ShowsKind old kinds.Null mid → e ≡ Msg message → new.faults ≡ mid.faults → Refuses (record { could = HasFront (by_kind s) old; lacks = L; borrows = B; stands = Anything }) old e new
   null_refused {E} {old} {mid} L B new message e k is same = subst (λ x. Refuses {E = E} (record { could = HasFront (by_kind s) old; lacks = L; borrows = B; stands = Anything }) old x new) (sym is) (
     same ∙ k.same.faults,
@@ -171,6 +171,6 @@ module _ {B I T Y L M K : Type 0} (s : KindShapes B I T Y L M K) where
       let k = call_answered PeeksKind old mid found h in
       null_refused L B new message e (subst (λ x. ShowsKind old.input x mid.input) is k.2) told (ap (λ (r : Reading). r.faults) same)
 
-  -- no byte stands there
+  -- there is no byte
   pub no_kind_shown : {E : Type 0} (L B : Type 0) (old new : DeState) (e : DecodeError E) → old.failed ≡ false → Call PeeksKind old (Err e) new → Refuses (record { could = HasFront (by_kind s) old.input; lacks = L; borrows = B; stands = Anything }) old.input e new.input
   no_kind_shown {E} L B old new e sound h = refusal_carried ByteCause Anything old.input old.input new.input e (same_reader (stays old.input)) (λ f. front_byte f.left f.front) (λ x. absurd x) (λ x. absurd x) (λ b l g. tt) (call_told PeeksKind old new (Err e) sound h).1

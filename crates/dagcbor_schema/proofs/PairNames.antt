@@ -1,4 +1,4 @@
--- What `of_name` answered, taken apart.
+-- What follows from the result of `of_name`.
 use Rattle.std.proofs.Common.{◌≡◌, Bool, true, false, None, Some, if◌then◌else◌, rules}
 
 -- a value that was taken under a test is the value, and the test held

@@ -1,4 +1,4 @@
--- What calls answer beside the law, taken from what the calls below them answer.
+-- What calls promise in addition to the law, from what the calls below them promise.
 use Rattle.std.proofs.Common.{◌≡◌, ℕ, ◌-◌, List, refl, arith, sym, ap, subst, ◌∙◌, inl, inr, Result, Ok, Err, IsErrAnd, codes}
 use Rattle.dagcbor_heads.specs.Looking.{Looks}
 use Rattle.dagcbor_core.specs.declared.error.DecodeError.{DecodeError}
@@ -17,17 +17,17 @@ use Rattle.dagcbor_schema.specs.declared.by_kind.ByKind.{ByKind}
 use Rattle.dagcbor_schema.specs.SchemaAnswers.{PeeksOnce, AnswersOfKind, AnswersByKind, RefusesNamedKey, RefusesContent, RefusesTagged, RefusesTag, RefusesEnvelope}
 use Rattle.dagcbor_schema.proofs.EnvelopeFronts.{AtFirstKey, AtTold, AtSecondKey, AtHeld}
 
--- the refusal that `?` hands on
+-- the refusal that `?` passes on
 pub told_as : {T E : Type 0} (Q : DecodeError E → Type 0) (r : Result T (DecodeError E)) (e : DecodeError E) → IsErrAnd r (λ y. y ≡ e) → Q e → IsErrAnd r Q
 told_as Q (Ok x) e h q = absurd h
 told_as Q (Err y) e h q = subst (λ x. Q x) (sym h) q
 
--- ---- a value that is told by its kind
+-- ---- a value told by its kind
 
 module _ {E B I T Y L M K : Type 0} (of_bool : DeState → Result B (DecodeError E) → DeState → Type 0) (of_integer : DeState → Result I (DecodeError E) → DeState → Type 0) (of_text : DeState → Result T (DecodeError E) → DeState → Type 0)
     (of_bytes : DeState → Result Y (DecodeError E) → DeState → Type 0) (of_list : DeState → Result L (DecodeError E) → DeState → Type 0) (of_map : DeState → Result M (DecodeError E) → DeState → Type 0) (of_link : DeState → Result K (DecodeError E) → DeState → Type 0)
   where
-    -- the type of the kind that was told answered
+    -- the type for this kind returned the result
     pub kind_answered : (old mid new : DeState) {found kind : Kind} (r : Result (ByKind B I T Y L M K) (DecodeError E)) → found ≡ kind → PeeksOnce {E = E} old (Ok found) mid → AnswersOfKind of_bool of_integer of_text of_bytes of_list of_map of_link kind mid r new
         → AnswersByKind of_bool of_integer of_text of_bytes of_list of_map of_link old r new
     kind_answered old mid new {found} {kind} r is p a = inr (kind, mid, subst (λ k. PeeksOnce {E = E} old (Ok k) mid) is p, a)

@@ -125,7 +125,7 @@ unfolding without
 rising_without name no_entries r = tt
 rising_without name (entry l u es) r = rising_by name l u es (bytes_eq l name) r (rising_without name es r.1)
 
--- a key stands once
+-- a key occurs once
 stands_once : (l : List ℕ) (es : Entries) (u t : Tree) (name : List ℕ) → IsRising (entry l u es) → l ≡ name → Has es name t → ⊥
 stands_once l es u t name r is h =
     let less : Equal ≡ Less = sym (key_cmp_same l) ∙ ap (key_cmp l) is ∙ above l es r.0 r.1 name t h in absurd (cc less)
@@ -156,7 +156,7 @@ module _ {V S : Type 0} (name : List ℕ) (shape : Shape Tree V) (others : Field
   others_take no_entries a s r h = let same : (a, s) ≡ r = cc h in ap (λ x. Some x.1) same
   others_take (entry k t es) a s r h = others_by es k t a s r (bytes_eq k name) (shape.view t) (others.take s k t) refl (λ c x g. others_take es c x r g) h
 
-  -- the first stays as it is, where no key is its own
+  -- the first stays as it is if no key is its own
   kept_by : (es : Entries) (k : List ℕ) (t : Tree) (a : Option V) (s : S) (r : Option V × S) (b : Bool) (w : Option V) (o : Option S) → bytes_eq k name ≡ b
       → ((u : Tree) → Has (entry k t es) name u → ⊥) → ((x : S) → view_entries takes (a, x) es ≡ Some r → r.0 ≡ a) → goes_on es (next_of b w o a s) ≡ Some r → r.0 ≡ a
   kept_by es k t a s r true w o e none more h = absurd (none t (inl (is_name k name e, refl)))

@@ -1,4 +1,4 @@
--- A variant of an enum that holds a value of a type of its own, where the type's meaning is not named.
+-- A variant of an enum that holds a value of its own type, without naming that type's meaning.
 use Rattle.std.proofs.Common.{◌≡◌, ℕ, true, false, Bool, List, None, option_map, Result, Err, IsErrAnd, MatchResult}
 use Rattle.std.specs.Prelude.{⊤, MatchBool}
 use Rattle.dagcbor_heads.specs.Refusals.{Refuses}
@@ -14,7 +14,7 @@ use Rattle.dagcbor_read.proofs.NamedVariants.{fields_refused}
 use Rattle.dagcbor_read.proofs.Progressing.{call_told}
 
 module _ {V W : Type 0} (shape : EnumShape V) (f : W → V) (own : Shape Tree W) (E T : Type 0) where
-  -- What it holds was refused, which `?` hands on.
+  -- What it holds was refused, which `?` passes on.
   pub held_handed_on : {U : Type 0} (P : U → Type 0) (borrows : Type 0) (e : EnumState) (old new : DeState) {k : List ℕ} (name : List ℕ) (r : DecodeError E) (result : Result U (DecodeError E)) → IsErrAnd result (λ y. y ≡ r)
       → k ≡ name → shape.unit name ≡ None → ((t : Tree) → shape.part name t ≡ option_map f (own.view t)) → ((t : Tree) → shape.need name t ≡ own.need t)
       → (own.wants_loan ≡ true → borrows) → ((lends : Bool) → own.memory lends ≡ true → shape.memory lends ≡ true) → old.failed ≡ false

@@ -1,4 +1,4 @@
--- A map of two entries, whose first tells what the second holds.
+-- A map of two entries: a tag, and the content that it identifies.
 use Rattle.std.specs.Prelude.{◌≡◌, ◌||◌, ◌<◌, ℕ, ◌+◌, List, Option, None, if◌then◌else◌, Result, MatchResult, false, bytes_eq}
 use Rattle.dagcbor_heads.specs.Reading.{Reading}
 use Rattle.dagcbor_heads.specs.Refusals.{RefusesOrLacksMemoryUnlent}
@@ -13,9 +13,9 @@ use Rattle.dagcbor_read.specs.Accessors.{AccessorState, with_key}
 use Rattle.dagcbor_read.specs.Deserializers.{DeState}
 use Rattle.dagcbor_read.specs.EnumViews.{EnumShape}
 
--- ---- what it shows
+-- ---- the view
 
--- The text under the tag's key tells what stands under the content's key. No other entry is there.
+-- The text at the tag's key determines what is at the content's key. There is no other entry.
 abbrev pub view_envelope : {V : Type 0} → (tag content : List ℕ) → (List ℕ → Tree → Option V) → Tree
     → Option V
 view_envelope tag content part (mapping (entry k (text name) (entry l t no_entries))) =
@@ -28,7 +28,7 @@ abbrev pub need_envelope : (List ℕ → Tree → ℕ) → Tree → ℕ
 need_envelope need (mapping (entry k (text name) (entry l t no_entries))) = 1 + need name t
 need_envelope need _ = 1
 
--- a map of a tag and of what it tells, under these keys
+-- a map of a tag and of the content that it identifies, under these keys
 abbrev pub envelope_of : {V : Type 0} → (tag content : List ℕ) → EnumShape V → Shape Tree V
 envelope_of tag content shape = record {
   view = view_envelope tag content shape.part;
@@ -37,15 +37,15 @@ envelope_of tag content shape = record {
   memory = λ lends. unless_lent lends || shape.memory lends;
 }
 
--- ---- a key that is known beforehand
+-- ---- a key that is known in advance
 
--- an entry is left whose key is this one
+-- an entry is left, and its key is this one
 pub record HasNamedKey (name : List ℕ) (before : AccessorState) (r : Reading) : Type 0 where
   pub some : 0 < before.left
   pub has : HasKey before.last r
   pub is : has.key ≡ name
 
--- The next key is taken exactly where an entry is left and its key is this one.
+-- The next key is taken exactly if an entry is left and its key is this one.
 abbrev pub ReadsNamedKey : {E : Type 0} → List ℕ → AccessorState → DeState
     → Result (Unit {0}) (DecodeError E) → AccessorState → DeState → Type 0
 ReadsNamedKey name before old result after new = MatchResult result

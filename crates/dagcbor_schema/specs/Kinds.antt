@@ -1,15 +1,15 @@
--- A value that is told by the kind of its data.
+-- A value whose type depends on the kind of its data.
 use Rattle.std.specs.Prelude.{◌||◌, ℕ, Option, None, option_map}
 use Rattle.serde_ipld_dagcbor.specs.Tree.{Tree, null, boolean, integer, text, bytes, list, mapping, link}
 use Rattle.serde_ipld_dagcbor.specs.Shapes.{Shape, leaf}
 use Rattle.dagcbor_schema.specs.declared.by_kind.ByKind.{ByKind}
 use Rattle.dagcbor_schema.specs.declared.by_kind.ByKind.TheVariants as kinds
 
--- no data
+-- the shape that accepts no data
 abbrev pub no_kind : Shape Tree (Unit {0})
 no_kind = leaf (λ t. None)
 
--- what data of each kind shows; null shows nothing
+-- the shape for data of each kind; null is not accepted
 pub record KindShapes (B I T Y L M K : Type 0) : Type 0 where
   pub of_bool : Shape Tree B
   pub of_integer : Shape Tree I
@@ -30,7 +30,7 @@ view_by_kind shapes (list ts) = option_map (λ x. kinds.List x) (shapes.of_list.
 view_by_kind shapes (mapping es) = option_map (λ x. kinds.Map x) (shapes.of_map.view (mapping es))
 view_by_kind shapes (link cid) = option_map (λ x. kinds.Link x) (shapes.of_link.view (link cid))
 
--- what a value of that kind needs
+-- the need of a value, by its kind
 abbrev pub need_by_kind : {B I T Y L M K : Type 0} → KindShapes B I T Y L M K → Tree → ℕ
 need_by_kind shapes null = 0
 need_by_kind shapes (boolean b) = shapes.of_bool.need (boolean b)

@@ -1,4 +1,4 @@
--- What is written of a tuple of a schema, and what is told by another value.
+-- What is written for a schema's tuple, and values that are identified by another value.
 pub mod SchemaAnswers
 pub mod ToldValues
 pub mod Kinds

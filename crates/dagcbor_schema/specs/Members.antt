@@ -1,7 +1,7 @@
--- What tells the members of a union whose fields stand beside what tells them.
+-- What identifies a union's member, if the member's fields are in the same map.
 use Rattle.std.specs.Prelude.{Option, None, Some}
 
--- a field must be there, and what is made of it
+-- a field must be there, and the result is made from its value
 abbrev pub there : {A B : Type 0} → Option A → (A → Option B) → Option B
 there None made = None
 there (Some x) made = made x

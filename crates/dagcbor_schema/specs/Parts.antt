@@ -1,10 +1,10 @@
--- The parts of a tuple that is written, of which some at the end may be absent.
+-- The parts of a tuple that is written. Some at the end may be absent.
 use Rattle.std.specs.Prelude.{◌≡◌, ◌⊎◌, ℕ, Bool, true, false, codes, List, [], ◌∷◌, Option, None, Some}
 use Rattle.serde_ipld_dagcbor.specs.Answers.{IsPartMessage}
 use Rattle.serde_ipld_dagcbor.specs.Tree.{Tree}
 
--- A part that may be absent, where nothing follows it. An absent part before another has no
--- tree, and so the list has none.
+-- A part that may be absent if no part comes after it. An absent part before another has no tree,
+-- and so the list has none.
 abbrev pub optional_part : {A : Type 0} → (A → Option Tree) → Option A → List (Option Tree)
     → List (Option Tree)
 optional_part tree (Some x) others = tree x ∷ others

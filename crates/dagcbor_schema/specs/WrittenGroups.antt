@@ -5,12 +5,12 @@ use Rattle.serde_ipld_dagcbor.specs.Tree.{Tree}
 use Rattle.serde_ipld_dagcbor.specs.Trees.{Pair, field, optional}
 use Rattle.dagcbor_write.specs.Rows.{rows_join}
 
--- what pairs are before others, of which they take nothing
+-- the pairs before others, which do not depend on the others
 pub record LeadingPairs : Type 0 where
   pub before : List Pair → List Pair
   pub joins : (others : List Pair) → before others ≡ before [] ++ others
 
--- the pairs, where no others stand after them
+-- the pairs, if no others come after them
 abbrev pub pairs_of : LeadingPairs → List Pair
 pairs_of joining = joining.before []
 
@@ -28,7 +28,7 @@ optional_leads name tree None behind others = behind.joins others
 optional_leads name tree (Some x) behind others =
     ap (λ ps. field name (tree x) ∷ ps) (behind.joins others)
 
--- a field that is left out where it has no value, and those after it
+-- a field that is left out if it has no value, and those after it
 abbrev pub optional_before : {A : Type 0} → List ℕ → (A → Option Tree) → Option A → LeadingPairs
     → LeadingPairs
 optional_before name tree o behind = record {

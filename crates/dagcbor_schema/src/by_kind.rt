@@ -1,4 +1,4 @@
-//! A value that is told by the kind of its data.
+//! A value whose type depends on the kind of its data.
 
 ghost use Rattle.std.specs.Prelude.{None, codes};
 ghost use Rattle.dagcbor_schema.specs.Kinds.{no_kind, by_kind};
@@ -9,7 +9,7 @@ ghost use Rattle.dagcbor_schema.specs.declared.by_kind.ByKind.TheVariants as kin
 use serde_ipld_dagcbor::{DecodeError, Deserialize, Deserializer, Kind, Read, ReadResult, Shown};
 use std::alloc::Global;
 
-/// A value whose type is told by the kind of its data. A null has none.
+/// A value whose type depends on the kind of its data. Null is not accepted.
 #[derive(Debug, Drop)]
 pub enum ByKind<B, I, T, Y, L, M, K> {
     Bool(B),
@@ -21,7 +21,7 @@ pub enum ByKind<B, I, T, Y, L, M, K> {
     Link(K),
 }
 
-/// In the place of a kind that tells nothing: any data is refused with `Msg("unknown kind")`.
+/// The type for a kind that is not accepted: any data is refused with `Msg("unknown kind")`.
 #[derive(Clone, Copy, Debug, PartialEq, Eq)]
 pub struct NoKind;
 

@@ -1,4 +1,4 @@
-//! A union whose member is told by a tag that stands before what it holds.
+//! A union whose member is identified by a tag that comes before the member's content.
 
 ghost use Rattle.std.specs.Prelude.{◌≡◌, ◌<◌, true, false, IfErr, ⊤};
 ghost use Rattle.dagcbor_core.specs.declared.error.DecodeError.{DecodeError};
@@ -14,19 +14,19 @@ use serde_ipld_dagcbor::{Accessor, DecodeError, Deserializer, Read, ReadResult};
 use std::alloc::Global;
 use std::borrow::CowStr;
 
-/// A union whose members are told by their tags.
+/// A union whose members are identified by tags.
 pub trait Enveloped<'de>: Sized + Drop {
     ghost View: { Type 0 };
 
     ghost meaning: { Self → View };
 
-    /// What its members hold, by their tags.
+    /// The views of the members' contents, by their tags.
     ghost shape: { EnumShape View };
 
-    /// How what a member holds is refused, beside the law.
+    /// How a member's content is refused, in addition to the law.
     ghost refuses: { {E : Type 0} → DeState → DecodeError E → DeState → Type 0 } = { λ old e new. ⊤ };
 
-    /// Reads what the member of this tag holds: the value of an entry whose key was read.
+    /// Reads the content of the member with this tag: the value of an entry whose key was read.
     fn read_content<R: Read>(
         alloc: Global,
         tag: &str,
@@ -43,7 +43,7 @@ pub trait Enveloped<'de>: Sized + Drop {
             (λ e. Self.refuses (de_state R.reading de.old) e (de_state R.reading de.new)) };
 }
 
-/// Reads the next key, which is this one. Another is refused with `Msg("unknown field")`.
+/// Reads the next key, which must be `name`. Another key is refused with `Msg("unknown field")`.
 fn read_named_key<'de, R: Read>(
     alloc: Global,
     name: &str,
@@ -70,7 +70,7 @@ fn read_named_key<'de, R: Read>(
     }
 }
 
-/// Reads a map of two entries: the tag, which tells the member, and then what the member holds.
+/// Reads a map of two entries: the tag of the member, and then the member's content.
 pub fn read_enveloped<'de, V: Enveloped<'de>, R: Read>(
     alloc: Global,
     tag: &str,

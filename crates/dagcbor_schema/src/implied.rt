@@ -1,9 +1,9 @@
-//! Fields that mean a value where they are left out.
+//! Fields that have an implied value if they are left out.
 
 ghost use Rattle.std.specs.Prelude.{◌≡◌};
 ghost use Rattle.dagcbor_schema.specs.Implied.{unless_implied};
 
-/// What is written of a field: nothing, where it is what it means without it.
+/// Returns what is written for a field: `None` if its value is the implied one.
 pub fn unless_meant<T: Copy + PartialEq>(value: &T, meant: T) -> Option<T>
     ensures { result ≡ unless_implied T.eq meant value.now }
 {

@@ -1,6 +1,6 @@
-//! What types of an IPLD Schema stand on, which `dagcbor-types` makes: tuples that are written, of
-//! any number of parts, structs that are, of any number of fields, and values told by a number, by
-//! their kind, or by a tag before them.
+//! The base of the types that `dagcbor-types` makes from an IPLD Schema: written tuples with any
+//! number of parts, written structs with any number of fields, and values identified by a number,
+//! by their kind, or by a tag before them.
 #![tactic(auto)]
 
 mod by_kind;

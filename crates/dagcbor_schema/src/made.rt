@@ -1,4 +1,4 @@
-//! A value that is made of what was read in another form.
+//! A value made of parts, which are read in another form.
 
 ghost use Rattle.std.specs.Prelude.{◌≡◌, Option, option_map, Result, codes, ⊤};
 ghost use Rattle.serde_ipld_dagcbor.specs.Tree.{Tree};
@@ -12,7 +12,7 @@ ghost use Rattle.dagcbor_schema.specs.SchemaAnswers.{Makes};
 use serde_ipld_dagcbor::{DecodeError, Deserializer, Read, ReadResult};
 use std::alloc::Global;
 
-/// A value that is made of parts, which are read first.
+/// A value made of parts, which are read first.
 pub trait Made<'de>: Sized + Drop {
     type Parts: Drop;
 
@@ -26,10 +26,10 @@ pub trait Made<'de>: Sized + Drop {
 
     ghost meaning: { Self → View };
 
-    /// What the parts make. None where they make nothing.
+    /// What the parts make, or `None` if they do not make a value.
     ghost made: { PartsView → Option View };
 
-    /// What reading the parts answers beside the law.
+    /// What reading the parts promises in addition to the law.
     ghost parts_answers: { {E : Type 0} → DeState → Result Self.Parts (DecodeError E) → DeState
         → Type 0 } = { λ old result new. ⊤ };
 
@@ -46,8 +46,8 @@ pub trait Made<'de>: Sized + Drop {
         ensures { option_map meaning result ≡ made (parts_meaning parts) };
 }
 
-/// Reads the parts that make the value. Such as make nothing are refused with `Msg("no such
-/// value")`.
+/// Reads the parts and makes the value of them. Parts that do not make a value are refused with
+/// `Msg("no such value")`.
 pub fn read_made<'de, T: Made<'de>, R: Read>(
     alloc: Global,
     de: &mut Deserializer<'de, R>,

@@ -1,4 +1,4 @@
-//! An enum whose variants are told by numbers.
+//! An enum whose variants are identified by numbers.
 
 ghost use Rattle.std.specs.Prelude.{◌≡◌, ◌^◌, ℕ, Option, option_map, codes};
 ghost use Rattle.dagcbor_heads.specs.Looking.{Looks};
@@ -13,21 +13,21 @@ ghost use Rattle.dagcbor_schema.specs.ToldValues.{told_by_number};
 use serde_ipld_dagcbor::{DecodeError, Deserialize, Deserializer, Read, ReadResult};
 use std::alloc::Global;
 
-/// A value that a number tells.
+/// A type whose values are identified by numbers.
 pub trait Numbered: Sized + Drop {
     ghost View: { Type 0 };
 
     ghost meaning: { Self → View };
 
-    /// What a number tells. None where it tells nothing.
+    /// The value that the number identifies, or `None` if there is no such value.
     ghost told: { ℕ → Option View };
 
     fn of_number(number: u64) -> Option<Self>
         ensures { option_map meaning result ≡ told number };
 }
 
-/// Reads the number that tells the value. One that tells nothing is refused with `Msg("unknown
-/// variant")`.
+/// Reads a number and returns the value that it identifies. If there is no such value, the number
+/// is refused with `Msg("unknown variant")`.
 pub fn read_numbered<'de, T: Numbered, R: Read>(
     alloc: Global,
     de: &mut Deserializer<'de, R>,

@@ -17,31 +17,31 @@ use std::alloc::Global;
 #[derive_where(Clone, Copy)]
 pub struct Part<'a, T>(pub &'a T);
 
-/// A part that may be absent, where nothing follows it.
+/// A part that may be absent if no part comes after it.
 #[derive_where(Clone, Copy)]
 pub struct OptionalPart<'a, T>(pub &'a Option<T>);
 
 /// The parts of a tuple, one after another: `(Part(&self.x), (OptionalPart(&self.y), ()))`.
 pub trait PartRow: Copy {
-    /// The trees of the parts that stand in the list.
+    /// The trees of the parts that are in the list.
     ghost trees: { Self → List (Option Tree) };
 
-    /// Whether writing a part may take memory, where the writer takes none.
+    /// True if writing a part may take memory even with a writer that takes none.
     ghost takes_memory: { Bool };
 
-    /// Which messages parts that have no spelling may be refused with.
+    /// The messages with which parts that have no spelling may be refused.
     ghost message: { Self → List ℕ → Type 0 };
 
-    /// Whether the first part is absent before others.
+    /// True if the first part is absent although others come after it.
     ghost gap: { Self → Bool };
 
-    /// How many parts there are at most.
+    /// The most parts that there are.
     ghost most: { ℕ };
 
     fn is_empty(self) -> bool
         ensures { MatchBool result (trees self ≡ []) (¬ (trees self ≡ [])) };
 
-    /// How many parts stand in the list.
+    /// Returns how many parts are in the list.
     fn count(self, limit: usize) -> usize
         requires { most ≤ limit }
         ensures counted { result ≡ length (trees self) }
@@ -161,7 +161,7 @@ fn write_head<W: Write>(alloc: Global, count: usize, ser: &mut Serializer<W>) ->
     Ok(())
 }
 
-/// Writes the list of the parts, which are so many at most.
+/// Writes the list of the parts, which are at most `most`.
 pub fn write_parts<P: PartRow, W: Write>(
     alloc: Global,
     most: usize,

@@ -14,22 +14,23 @@ use dagcbor_write::{Place, Places};
 use serde_ipld_dagcbor::{CollectMap, FieldRow, Serializer, Write, WriteResult};
 use std::alloc::Global;
 
-/// Some of the fields of a struct that is lent as `R`: by `&X`, whose lifetime no bound names so.
+/// Some fields of a struct that is lent as `R`. `R` stands for `&X`, whose lifetime a bound cannot
+/// name here.
 pub trait WrittenGroup<R>: Copy {
     /// The fields, one after another.
     type Row: FieldRow;
 
-    /// The names and the trees of the fields that stand in the map, before others.
+    /// The names and trees of the fields that are in the map, before others.
     ghost fields: { R → LeadingPairs };
 
     fn row(self, whole: R) -> Self::Row
         ensures { Self.Row.pairs result ≡ pairs_of (fields whole) };
 }
 
-/// Groups of fields of a struct that is lent as `R`: one, or two, each of them such groups. The calls
-/// are those of `FieldRow`, and none of them names a field's type.
+/// Groups of fields of a struct that is lent as `R`: one group, or two, each of them groups as
+/// well. The calls are those of `FieldRow`. None of them names a field's type.
 pub trait WrittenGroups<R>: Copy {
-    /// The names and the trees of the fields that stand in the map, before others.
+    /// The names and trees of the fields that are in the map, before others.
     ghost all: { R → LeadingPairs };
 
     fn push_fields<W: Write>(self, whole: R, map: &mut CollectMap<'_, W>) -> WriteResult<(), W>
@@ -82,11 +83,11 @@ pub trait WrittenGroups<R>: Copy {
             → IfErr result IsMsg × (ser.new ≡ ser.old) };
 }
 
-/// One group, as it stands among others: `((OneGroup(X1), OneGroup(X2)), OneGroup(X3))`.
+/// One group among others: `((OneGroup(X1), OneGroup(X2)), OneGroup(X3))`.
 #[derive(Clone, Copy)]
 pub struct OneGroup<P>(pub P);
 
-/// The fields of these groups of a struct that is lent, as a row.
+/// The fields of these groups of a lent struct, as a row.
 #[derive(Drop)]
 pub struct InGroups<R, P>(pub R, pub P);
 

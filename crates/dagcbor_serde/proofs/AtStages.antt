@@ -1,4 +1,4 @@
--- What is open, by what it wants.
+-- What is open, by what it expects next.
 use Rattle.std.proofs.Common.{◌≡◌, ℕ, List, Some, None, sym, ◌∙◌, subst}
 use Rattle.ipld_tree.specs.Tree.{Tree}
 use Rattle.dagcbor_write.specs.Trees.{Pair}
@@ -7,7 +7,7 @@ use Rattle.dagcbor_serde.specs.Holds.{HoldsLevel, Part}
 use Rattle.dagcbor_serde.specs.declared.frame.Stage.{Stage}
 use Rattle.dagcbor_serde.specs.declared.frame.Stage.TheVariants as stage
 
--- the property is shown of each level that is held at the stage
+-- the property is shown of each level that is represented at this stage
 abbrev pub ShownAt : Stage → Part → (Level → Type 0) → Type 0
 ShownAt stage.Vacant f P = HoldsLevel (whole None) f → P (whole None)
 ShownAt stage.Full f P = (u : Tree) → HoldsLevel (whole (Some u)) f → P (whole (Some u))
@@ -19,7 +19,7 @@ ShownAt stage.WantsMap f P = (ps : List Pair) (n : ℕ) → HoldsLevel (in_map p
 ShownAt stage.Link f P = HoldsLevel (in_link None) f → P (in_link None)
 ShownAt stage.Linked f P = (c : List ℕ) → HoldsLevel (in_link (Some c)) f → P (in_link (Some c))
 
--- what is held is held at its own stage
+-- a level is represented only at its own stage
 pub at_stage : (s : Stage) (f : Part) (P : Level → Type 0) → f.frame.stage ≡ s → ShownAt s f P → (l : Level) → HoldsLevel l f → P l
 at_stage s f P at g l h = by l h
   where

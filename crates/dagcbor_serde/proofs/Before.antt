@@ -7,7 +7,7 @@ use Rattle.std.specs.Ordering.{nat_cmp, ordering_then}
 use Rattle.ipld_tree.specs.Key.{bytes_cmp}
 use Rattle.dagcbor_serde.specs.Holds.{StandsBefore}
 
--- bytes that are alike up to a place, where the first has the lesser one
+-- bytes that are equal up to an index, where the first has the lesser byte
 pub before_at : (i : ℕ) (a b : List ℕ) → ((k d : ℕ) → k < i → get_or a k d ≡ get_or b k d) → i < length a → i < length b → get_or a i 0 < get_or b i 0 → StandsBefore a b
 before_at i [] b same p q low = absurd (omega (arith, p))
 before_at i (m ∷ a) [] same p q low = absurd (omega (arith, q))
@@ -25,7 +25,7 @@ alike m n Less rest e same h = absurd (omega (arith, ranked n m Less e, same))
 alike m n Equal rest e same h = h
 alike m n Greater rest e same h = refl
 
--- whatever follows them, the second stands not before the first
+-- whatever comes after them, the second is not before the first
 pub not_before : (a b x y : List ℕ) → StandsBefore a b → is_lt (bytes_cmp (b ++ y) (a ++ x)) ≡ false
 not_before [] b x y h = absurd h
 not_before (m ∷ a) [] x y h = absurd h

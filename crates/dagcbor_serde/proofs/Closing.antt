@@ -33,7 +33,7 @@ pushed_on f ss i d x y w h e g =
 pub all_pushed : (f : Span → List ℕ) (ss : List Span) (i : ℕ) (x w : List ℕ) → length ss ≤ i → x ++ flat_map f (drop i ss) ≡ w → x ≡ w
 all_pushed f ss i x w h e = sym (append-nil x) ∙ ap (λ k. x ++ flat_map f k) (sym (drop_of_length-le ss h)) ∙ e
 
--- entries that stand in order stay as they are
+-- entries that are in order stay as they are
 pub kept_order : (place : ℕ) (b : List ℕ) (ss : List Span) → (All (IsWithin (length b)) ss → AreInOrder (map (entry_at b) ss)) → PutsEach place b ss b (length ss)
 kept_order place b ss order ps h =
     let o = order h.1 in
@@ -45,7 +45,7 @@ pub sorted_order : (place : ℕ) (b c : List ℕ) (ss sorted : List Span) → (A
 sorted_order place b c ss sorted order within count is ps h =
     (map (entry_at b) sorted, order h.1, is ∙ ap (λ x. take (place + 1) b ++ x) (entries_are b sorted (within h.1)), sym count ∙ sym (length-map sorted (entry_at b)))
 
--- what stands from a place on, as a slice of all
+-- the spans from an index on, as a slice of all
 pub rest_from : (n : ℕ) (xs ys : List Span) → xs ≡ ys → take (length xs - n) (drop n xs) ≡ drop n ys
 rest_from n xs ys is = take_all (length xs - n) (drop n xs) (omega (arith, length-drop n xs)) ∙ ap (drop n) is
 
@@ -145,8 +145,8 @@ module _ (old new : Sink) where
 
 -- ---- ends
 
--- What was innermost is left, and its item came to what is around it: first its bytes, after those
--- that stood before it.
+-- The innermost level was left, and its item came to the level around it: its bytes come after
+-- those before it.
 pub record Left (old new : Sink) (item : List ℕ) : Type 0 where
   pub around : Frame
   pub below : List Frame
@@ -207,7 +207,7 @@ link_ended old new at l s h =
     at_stage stage.Linked (part old.top old.bytes.items (drop old.top.first old.spans.items)) (λ k. (t : State) × (close_map k s.around ≡ Some t) × HoldsAll t new) at (λ cid held.
     closed (link cid) _ old new s.around held.1 (l held.2) h.1 h.3) s.top h.0
 
--- a map has a tree where its entries stand in order
+-- a map has a tree if its entries are in order
 good_map : (ps : List Pair) (place : ℕ) (b c : List ℕ) (ss : List Span) (n : ℕ) → HoldsEntries ps place b ss → (p : PutsEntries place b ss c n) → n < 2 ^ 64 → (t : Tree) × (entries_tree ps ≡ Some t) × IsGood t (head 5 n ++ entries_bytes p.0)
 good_map ps place b c ss n h p fits =
     let is = in_order false ps _ p.0 h.0 p.1 in
@@ -219,7 +219,7 @@ good_map ps place b c ss n h p fits =
     by None e f g = cc
     by (Some t) e f g = (t, e, (f, g))
 
--- the entries stand after the byte of the head, and what is before it is as it was
+-- the entries come after the byte of the head, and what is before it is unchanged
 pub entries_stand : (place : ℕ) (b c : List ℕ) (ss : List Span) (n : ℕ) → place < length b → (p : PutsEntries place b ss c n) → (take place c ≡ take place b) × (drop (place + 1) c ≡ entries_bytes p.0)
 entries_stand place b c ss n h p =
     let short : place ≤ length (take (place + 1) b) = omega (arith, h, length-take-le (place + 1) b (omega (arith, h))) in

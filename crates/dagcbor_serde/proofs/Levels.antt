@@ -1,4 +1,4 @@
--- What is held after an item, a key, or another call.
+-- What represents a level after an item, a key, or another call.
 use Rattle.std.proofs.Common.{◌≡◌, ℕ, zero, suc, ◌+◌, ◌≤◌, List, [], ◌∷◌, ◌++◌, length, map, take, drop, Option, None, Some, refl, sym, ap, ap₂, ◌∙◌, subst, arith, length-append, append_assoc, append-nil, take_all, take-append-drop, length-drop, length-take-le, All, flat_map}
 use Rattle.std.proofs.Math.Seq.{drop-append_seam, take-append_seam}
 use Rattle.std.proofs.lemmas.List.{drop-append-le}
@@ -19,11 +19,11 @@ use Rattle.dagcbor_serde.specs.declared.frame.Stage.TheVariants as stage
 use Rattle.dagcbor_serde.proofs.AtStages.{at_stage}
 use Rattle.dagcbor_serde.proofs.Spans.{entries_stay, within_stays, wholes_stay, value_joins, value_within}
 
--- what is held after a level
+-- the next level is represented
 abbrev pub After : (Level → Option Level) → Part → Level → Type 0
 After next new l = (m : Level) × (next l ≡ Some m) × HoldsLevel m new
 
--- where a level is held, its successor is
+-- if a level is represented, the next one is afterwards
 abbrev pub Moves : (Level → Option Level) → Part → Part → Type 0
 Moves next old new = (l : Level) → HoldsLevel l old → After next new l
 
@@ -67,7 +67,7 @@ module _ (place key : ℕ) (old : List ℕ) (ss : List Span) where
   abbrev one_more : List ℕ → Span
   one_more b = record { start = key; key_end = length old; end = length (old ++ b) }
 
-  -- and one after them are all that stands there
+  -- these entries and one after them are all that is there
   runs : (ps : List Pair) (b : List ℕ) → HoldsEntries ps place (take key old) ss → key ≤ length old → flat_map (whole_at (old ++ b)) (ss ++ one_more b ∷ []) ≡ drop (place + 1) (old ++ b)
   runs ps b h inside =
       let first : flat_map (whole_at (old ++ b)) ss ≡ drop (place + 1) (take key old) = ap (λ x. flat_map (whole_at x) ss) (sym (seam b)) ∙ wholes_stay (take key old) (drop key old ++ b) ss h.1 ∙ h.2 in
@@ -136,7 +136,7 @@ module _ (f : Frame) (b : List ℕ) (ss : List Span) where
       let Q : ℕ → Type 0 = λ n. IsGood (link cid) (drop n (b ++ more)) in
       (in_link (Some cid), refl, (refl, subst Q h.1 (subst P (sym (drop-append_seam b more)) good), h.2)))
 
--- ---- what is no more than an item
+-- ---- what is only an item
 
 pub unit_is_null : (p : Part) → (p.frame.stage ≡ stage.WantsMap → ⊥) → (l : Level) → HoldsLevel l p → put null l ≡ put_unit l
 unit_is_null p n (in_map ps for_map k) h = absurd (n h.0.0)

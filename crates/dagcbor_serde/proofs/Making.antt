@@ -48,7 +48,7 @@ pub steps_then : (es fs : List Event) (s : State) → steps (es ++ fs) s ≡ opt
 steps_then [] fs s = refl
 steps_then (e ∷ es) fs s = then_assoc es fs (step e s) (steps_then es fs)
 
--- one event that is an item wherever one is taken
+-- one event that is an item wherever an item is accepted
 one_event : (e : Event) (t : Tree) → ((s : State) → IsTrue (takes_items s.top) → step e s ≡ on_top (put t) s) → MakesTree (e ∷ []) t
 one_event e t h s k = some_same (step e s) ∙ h s k
 
@@ -168,7 +168,7 @@ fields_same (x ∷ xs) = ap (λ more. (Some (text (string_bytes x.0)), Some (tre
 map_made : (m : BTreeMap (String Global) Ipld) → IsStrictlySortedBy string_cmp (keys_of m.entries) → entries_tree (entries_in m.entries) ≡ Some (mapping (ordered_entries (pairs_of m.entries)))
 map_made m sorted = map_kind (Map' m) m refl sorted ∙ ap Some (tree_of_Map m)
 
--- the entries in turn make their map, and are added where it is flattened
+-- the entries one by one make their map, and are added if it is flattened
 pub sends_map : (m : BTreeMap (String Global) Ipld) (a b : Log) → IsStrictlySortedBy string_cmp (keys_of m.entries) → WritesMap (λ k old new. Logs old new (event.text (string_bytes k))) (λ v. WritesEvents (tree_of v)) m.entries a b → WritesEntries (pairs_of m.entries) a b
 sends_map m a b sorted h =
     let each = entries_made m.entries h.0 h.1 h.3 in (

@@ -1,4 +1,4 @@
--- What is held of all that is open after one more call.
+-- What represents all that is open after one more call.
 use Rattle.std.proofs.Common.{◌≡◌, ℕ, ◌+◌, ◌≤◌, ◌<◌, ◌^◌, List, [], ◌∷◌, ◌++◌, length, take, drop, Option, Some, refl, sym, ap, ◌∙◌, subst, arith, length-append, take_all, length-take-le, reverse, option_map, Result, Ok, Err, OnOk}
 use Rattle.std.proofs.Math.Seq.{drop-length}
 use Rattle.std.proofs.lemmas.List.{take-append-le, drop-append-le}
@@ -130,7 +130,7 @@ steps_as f g old new same m s h =
     let t = m s h in
     (t.0, ap (option_map (λ k. state k s.around)) (sym (same s.top h.0)) ∙ t.1, t.2)
 
--- ---- where a call succeeds
+-- ---- if a call succeeds
 
 module _ {T E : Type 0} (old new : Sink) where
   pub puts_good : (r : Result T E) (b : List ℕ) (t : Tree) → OnOk r (PutsSpelling b old new) → IsGood t b → OnOk r (MovesTop (put t) old new)

@@ -27,7 +27,7 @@ first Failed old new b l s r = absurd r
 first (DepthOverflow n) old new b l s r = of_item (DepthOverflow n) old b s (r.2 b l)
 first e old new b l s r = of_item e old b s (r.2 b l)
 
--- where the source tells its bytes, a whole block is refused for a cause that stands in them
+-- if the source's bytes are known, a whole block is refused for a cause found in them
 pub whole_refused : {E : Type 0} (o : Option (List ℕ)) (e : DecodeError E) (old new : Reading) → old.left ≡ o → old.steps ≡ 256 → RefusesOrLacksMemory (HasItem 0 old) (ItemCause (old.steps + 0)) old e new → IfSome o (SourceRefused e)
 whole_refused None e old new l s r = tt
 whole_refused (Some b) e old new l s r = whole e old new b l s r

@@ -1,4 +1,4 @@
--- Entries that stand in one buffer, where bytes are appended.
+-- Entries in one buffer, to which bytes are appended.
 use Rattle.std.proofs.Common.{◌≡◌, ℕ, ◌≤◌, List, [], ◌∷◌, ◌++◌, length, map, drop, refl, sym, ap₂, ◌∙◌, arith, length-append, append_assoc, All, flat_map}
 use Rattle.std.proofs.lemmas.List.{map_push}
 use Rattle.std.proofs.lemmas.List.Elements.{All-push, recursion_from_All}
@@ -38,6 +38,6 @@ entries_bytes_are : (b : List ℕ) (ss : List Span) → AllByRecursion (IsWithin
 entries_bytes_are b [] w = refl
 entries_bytes_are b (s ∷ ss) w = ap₂ (λ x y. x ++ y) (sym (one_range b s w.0.0 w.0.1)) (entries_bytes_are b ss w.1) ∙ append_assoc (entry_at b s).0 (entry_at b s).1 (entries_bytes (map (entry_at b) ss))
 
--- what stands there, one after the other, are the entries
+-- the bytes there, one span after another, are the entries
 pub entries_are : (b : List ℕ) (ss : List Span) → All (IsWithin (length b)) ss → flat_map (whole_at b) ss ≡ entries_bytes (map (entry_at b) ss)
 entries_are b ss w = entries_bytes_are b ss (recursion_from_All (IsWithin (length b)) ss w)

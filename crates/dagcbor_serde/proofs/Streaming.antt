@@ -36,7 +36,7 @@ module _ (E T : Type 0) where
 shown_some : {byte : ℕ} {old mid : Reading} → ShowsByte old byte mid → SomeLeft old
 shown_some {byte} {old} {mid} s b l = let k = s.starts b l in omega (arith, ap length k.1)
 
--- an item after a look stood there before
+-- an item after a look was there before it
 pub item_before : {byte : ℕ} {old mid new : Reading} {t : Tree} → ShowsByte old byte mid → TakesItem 0 mid t new → TakesItem 0 old t new
 item_before {byte} {old} {mid} {new} {t} s a = record {
   taken = λ b l. let k = a.taken b (s.kept b l) in (k.0, k.1, omega (arith, k.2, s.same.steps), k.3);

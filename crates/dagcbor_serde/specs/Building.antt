@@ -1,4 +1,4 @@
--- The tree that the events of a value make, one by one.
+-- The tree that the events of a value make, event by event.
 use Rattle.std.specs.Prelude.{ℕ, zero, suc, pos, Bool, true, false, ◌&&◌, if◌then◌else◌, codes, List, [], ◌∷◌, ◌++◌, Option, Some, None, option_map, option_and_then, encode_utf8, bytes_eq}
 use Rattle.serde.specs.Event as event
 use Rattle.serde.specs.Event.{Event}
@@ -9,23 +9,23 @@ use Rattle.serde.specs.declared.name.NameKind.TheVariants.{Field, Variant}
 use Rattle.ipld_tree.specs.Tree.{Tree, null, boolean, integer, text, bytes, list, link, items_of, key_of, entries_tree}
 use Rattle.dagcbor_write.specs.Trees.{Pair}
 
--- what an open map wants next: a key, a key as a value, the value of a key, or a map whose entries
--- it takes
+-- what an open map expects next: a key, a key as a value, the value of a key, or a map whose
+-- entries it takes
 pub data Wait : Type 0 where
   rests : Wait
   for_key : Wait
   for_value : List ℕ → Wait
   for_map : Wait
 
--- what is open: the whole, with its one item; a list, with its items; a map, with its entries, what
--- it wants and how many open maps give it their entries; or a link, with its CID
+-- what is open: the whole value, with its one item; a list, with its items; a map, with its
+-- entries, what it expects and how many open maps give it their entries; or a link, with its CID
 pub data Level : Type 0 where
   whole : Option Tree → Level
   in_list : List Tree → Level
   in_map : List Pair → Wait → ℕ → Level
   in_link : Option (List ℕ) → Level
 
--- the innermost that is open, and those around it, from the inside out
+-- the innermost open level, and those around it, from the inside out
 pub record State : Type 0 where
   pub top : Level
   pub around : List Level
@@ -39,7 +39,7 @@ start = state (whole None) []
 
 -- ---- what is innermost
 
--- an item comes
+-- an item comes to the level
 abbrev pub put : Tree → Level → Option Level
 put t (whole None) = Some (whole (Some t))
 put t (whole (Some u)) = None
@@ -55,12 +55,12 @@ abbrev pub put_key : List ℕ → Level → Option Level
 put_key k (in_map ps rests n) = Some (in_map ps (for_value k) n)
 put_key k _ = None
 
--- a map that was just begun is a link
+-- a map that was just begun becomes a link
 abbrev pub as_link : Level → Option Level
 as_link (in_map [] rests zero) = Some (in_link None)
 as_link _ = None
 
--- `/` in kebab case, which no derive sends: a name that is not an identifier comes as it is
+-- the case in which the name `/` marks a link: no derive sends it so
 abbrev pub is_kebab : Case → Bool
 is_kebab Kebab = true
 is_kebab _ = false
@@ -72,12 +72,12 @@ abbrev pub put_field : List ℕ → Case → Level → Option Level
 put_field name case l =
     if is_link_name name case then as_link l else put_key (spelled_name case Field name) l
 
--- bytes are a byte string, or the CID of the link
+-- bytes come, as a byte string or as the CID of the link
 abbrev pub put_bytes : List ℕ → Level → Option Level
 put_bytes s (in_link None) = Some (in_link (Some s))
 put_bytes s l = put (bytes s) l
 
--- a unit is null, or no map whose entries are taken
+-- a unit comes, as null or in place of a map whose entries are to be taken
 abbrev pub put_unit : Level → Option Level
 put_unit (in_map ps for_map n) = Some (in_map ps rests n)
 put_unit l = put null l
@@ -99,7 +99,7 @@ flatten _ = None
 abbrev pub on_top : (Level → Option Level) → State → Option State
 on_top f s = option_map (λ l. state l s.around) (f s.top)
 
--- a list or a map is begun; that of a flattened map gives its entries to the one around it
+-- a list or a map begins; a flattened map gives its entries to the one around it
 abbrev pub begin : Level → State → Option State
 begin l s = Some (state l (s.top ∷ s.around))
 
@@ -107,7 +107,7 @@ abbrev pub begin_map : Level → List Level → Option State
 begin_map (in_map ps for_map n) ls = Some (state (in_map ps rests (suc n)) ls)
 begin_map l ls = begin (in_map [] rests 0) (state l ls)
 
--- what was innermost ends: its tree is an item of what is around it
+-- the innermost level ends, and its tree is an item of the level around it
 abbrev pub close : Option Tree → List Level → Option State
 close None ls = None
 close (Some t) [] = None
@@ -126,7 +126,7 @@ close_map _ ls = None
 
 -- ---- events
 
--- an event comes; floats are none
+-- an event comes; a float is refused
 abbrev pub step : Event → State → Option State
 step (event.boolean b) s = on_top (put (boolean b)) s
 step (event.signed z) s = on_top (put (integer z)) s
@@ -152,7 +152,7 @@ abbrev pub steps : List Event → State → Option State
 steps [] s = Some s
 steps (e ∷ es) s = option_and_then (steps es) (step e s)
 
--- the one item, where nothing else is open
+-- the one item, if nothing else is open
 abbrev pub only_item : Level → List Level → Option Tree
 only_item (whole o) [] = o
 only_item _ _ = None
@@ -160,6 +160,6 @@ only_item _ _ = None
 abbrev pub finished : State → Option Tree
 finished s = only_item s.top s.around
 
--- the tree of the events, where they are those of one value
+-- the tree of the events, if they are those of one value
 abbrev pub events_tree : List Event → Option Tree
 events_tree es = option_and_then finished (steps es start)

@@ -1,4 +1,4 @@
--- What the writer holds for what is open; for private clauses.
+-- How a writer's bytes represent what is open; for private clauses.
 use Rattle.std.specs.Prelude.{◌≡◌, ◌⊎◌, ℕ, ◌+◌, ◌≤◌, ◌<◌, List, [], ◌∷◌, ◌++◌, length, map, take, drop, Option, Some, None, reverse, Bool, true, false, IsSomeAnd, ⊤, All, flat_map, IsSortedBy}
 use Rattle.serde.specs.Event.{Log}
 use Rattle.ipld_tree.specs.Tree.{Tree, text, link, IsTree, AreItems, items_of}
@@ -20,22 +20,22 @@ IsGood t b = (spelled t ≡ Some b) × IsTree t
 
 -- ---- entries
 
--- the first byte in which they differ is the lesser in the first
+-- the first byte in which they differ is less in the first
 abbrev pub StandsBefore : List ℕ → List ℕ → Type 0
 StandsBefore [] b = ⊥
 StandsBefore (x ∷ a) [] = ⊥
 StandsBefore (x ∷ a) (y ∷ b) = (x < y) ⊎ ((x ≡ y) × StandsBefore a b)
 
--- the entries stand in the order of their bytes, and no key is that of the one before it
+-- the entries are in the order of their bytes, and each key differs from the one before it
 abbrev pub AreInOrder : List Texts → Type 0
 AreInOrder es = IsSortedBy goes_before es × KeysDiffer es true
 
--- the entries are all that follows the byte at the place
+-- the entries are all that comes after the byte at the place
 abbrev pub HoldsEntries : List Pair → ℕ → List ℕ → List Span → Type 0
 HoldsEntries ps place b ss = AreSpellingsOf ps (map (entry_at b) ss) × All (IsWithin (length b)) ss
     × (flat_map (whole_at b) ss ≡ drop (place + 1) b) × (place < length b)
 
--- these entries were put in order, and are all that follows the byte at the place now
+-- these entries were put in order, and are now all that comes after the byte at the place
 abbrev pub PutsEntries : ℕ → List ℕ → List Span → List ℕ → ℕ → Type 0
 PutsEntries place old ss new n = (es : List Texts) × PutsInOrder (map (entry_at old) ss) es true
     × (new ≡ take (place + 1) old ++ entries_bytes es) × (n ≡ length es)
@@ -46,7 +46,7 @@ PutsEach place old ss new n = (ps : List Pair) → HoldsEntries ps place old ss
 
 -- ---- what is open
 
--- what is open, with the bytes up to its end, and its entries
+-- an open level, with the bytes up to its end, and its entries
 pub record Part : Type 0 where
   pub frame : Frame
   pub bytes : List ℕ
@@ -77,8 +77,8 @@ HoldsLevel (in_link None) p = (p.frame.stage ≡ stage.Link) × (length p.bytes 
 HoldsLevel (in_link (Some cid)) p = (p.frame.stage ≡ stage.Linked)
     × IsGood (link cid) (drop p.frame.place p.bytes) × (p.spans ≡ [])
 
--- what is open is held, from the inside out: each has the bytes and the entries after those of
--- what is around it
+-- the open levels are represented, from the inside out: the bytes and entries of each come after
+-- those of the level around it
 abbrev pub Opens : List Level → List Frame → List ℕ → List Span → Type 0
 Opens [] [] b ss = ⊤
 Opens [] (f ∷ fs) b ss = ⊥
@@ -90,19 +90,19 @@ abbrev pub HoldsAll : State → Sink → Type 0
 HoldsAll s sink = Opens (s.top ∷ s.around) (sink.top ∷ reverse sink.below.items) sink.bytes.items
     sink.spans.items
 
--- where a state is held, its successor is
+-- if a state is represented, the next one is afterwards
 abbrev pub StepsBy : (State → Option State) → Sink → Sink → Type 0
 StepsBy next old new = (s : State) → HoldsAll s old → (t : State) × (next s ≡ Some t) × HoldsAll t new
 
--- the innermost alone moves
+-- only the innermost level changes
 abbrev pub MovesTop : (Level → Option Level) → Sink → Sink → Type 0
 MovesTop next old new = StepsBy (on_top next) old new
 
--- an item of this spelling is put
+-- an item with this spelling is put
 abbrev pub PutsSpelling : List ℕ → Sink → Sink → Type 0
 PutsSpelling b old new = (t : Tree) → IsGood t b → MovesTop (put t) old new
 
--- an item came, whose bytes stand between these places
+-- an item came, with its bytes between these places
 abbrev pub Lands : Stage → ℕ → ℕ → Frame → List Span → Frame → List Span → Type 0
 Lands stage.Vacant from to f ss g ts = (g ≡ record f { stage = stage.Full }) × (ts ≡ ss)
 Lands stage.List from to f ss g ts = (g ≡ record f { count = f.count + 1 }) × (ts ≡ ss)
@@ -110,12 +110,12 @@ Lands stage.WantsValue from to f ss g ts = (g ≡ record f { stage = stage.Rests
     × (ts ≡ ss ++ (record { start = f.key; key_end = from; end = to }) ∷ [])
 Lands _ from to f ss g ts = ⊥
 
--- a name as a key, or as a text
+-- a name comes, as a key or as a text
 abbrev pub put_name : Bool → List ℕ → Level → Option Level
 put_name true k = put_key k
 put_name false k = put (text k)
 
--- a list or a map was begun after all bytes and all entries
+-- a list or map was begun after all bytes and all entries
 pub record BeginsStage (s : Stage) (old new : Sink) : Type 0 where
   pub top : new.top ≡ record {
     stage = s;
@@ -129,11 +129,11 @@ pub record BeginsStage (s : Stage) (old new : Sink) : Type 0 where
   pub spans : new.spans.items ≡ old.spans.items
   pub below : new.below.items ≡ old.below.items ++ old.top ∷ []
 
--- what was sent makes a state that is held
+-- the events so far make a state, and the writer represents it
 abbrev pub FollowsLog : Log → Sink → Type 0
 FollowsLog log sink = IsSomeAnd log (λ es. (s : State) × (steps es start ≡ Some s) × HoldsAll s sink)
 
--- what was sent makes a state that is held, until a call is refused
+-- the same, unless a call was refused
 abbrev pub FollowsUnless : Bool → Log → Sink → Type 0
 FollowsUnless true log sink = ⊤
 FollowsUnless false log sink = FollowsLog log sink

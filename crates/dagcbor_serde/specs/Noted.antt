@@ -1,4 +1,4 @@
--- The event that a `Note` stands for.
+-- The event that a `Note` means.
 use Rattle.serde.specs.Event.{Event, Log, boolean, signed, unsigned, character, text, octets, nothing, unit_variant, seq_begins, seq_ends, map_begins, map_ends, field_key, variant_key, key_begins, key_ends, flattens}
 use Rattle.dagcbor_serde.specs.Logged.{then}
 use Rattle.dagcbor_serde.specs.declared.log.Note.{Note}

@@ -1,4 +1,4 @@
--- Why the writer refuses an event, by what is open; for private clauses.
+-- Why the writer refuses an event, depending on what is open; for private clauses.
 use Rattle.std.specs.Prelude.{◌≡◌, ◌≢◌, ◌⊎◌, ℕ, List, ⊤}
 use Rattle.ipld_tree.specs.Cid.{IsCid}
 use Rattle.dagcbor_serde.specs.declared.error.Refusal.{Refusal}
@@ -6,15 +6,15 @@ use Rattle.dagcbor_serde.specs.declared.error.Refusal.TheVariants as refusal
 use Rattle.dagcbor_serde.specs.declared.frame.Stage.{Stage}
 use Rattle.dagcbor_serde.specs.declared.frame.Stage.TheVariants as stage
 
--- a growth was refused
+-- the allocator refused memory
 abbrev pub LacksMemory : Refusal → Type 0
 LacksMemory r = r ≡ refusal.OutOfMemory
 
--- a growth was refused, or a place lies outside the bytes
+-- the allocator refused memory, or a place is outside the bytes
 abbrev pub LacksMemoryOrPlace : Refusal → Type 0
 LacksMemoryOrPlace r = (r ≡ refusal.OutOfMemory) ⊎ (r ≡ refusal.Misplaced)
 
--- no item may come there, whatever it is
+-- no item may come at this stage
 abbrev pub TakesNone : Stage → Type 0
 TakesNone stage.Full = ⊤
 TakesNone stage.Rests = ⊤
@@ -22,8 +22,8 @@ TakesNone stage.Link = ⊤
 TakesNone stage.Linked = ⊤
 TakesNone _ = ⊥
 
--- An item is refused that is no text where a key is wanted, or no map where one is flattened, or
--- where none may come; or a growth was refused.
+-- An item is refused if it is not a text where a key is expected, or not a map where one is
+-- flattened, or if none may come; or the allocator refused memory.
 abbrev pub ItemRefused : Stage → Refusal → Type 0
 ItemRefused s refusal.OutOfMemory = ⊤
 ItemRefused s refusal.KeyIsNoText = s ≡ stage.WantsKey
@@ -31,17 +31,17 @@ ItemRefused s refusal.FlattensNoMap = s ≡ stage.WantsMap
 ItemRefused s refusal.Misplaced = TakesNone s
 ItemRefused s _ = ⊥
 
--- so is a text, which may be a key
+-- the same for a text, which may be a key
 abbrev pub TextRefused : Stage → Refusal → Type 0
 TextRefused s refusal.KeyIsNoText = ⊥
 TextRefused s r = ItemRefused s r
 
--- so is a number, where it is outside this range
+-- the same for a number, which may also be outside this range
 abbrev pub NumberRefused : Type 0 → Stage → Refusal → Type 0
 NumberRefused outside s refusal.OutOfRange = outside
 NumberRefused outside s r = ItemRefused s r
 
--- the bytes of a link are no CID, or a growth was refused
+-- the bytes of a link are not a CID, or the allocator refused memory
 abbrev pub CidRefused : List ℕ → Refusal → Type 0
 CidRefused v refusal.OutOfMemory = ⊤
 CidRefused v refusal.NoCid = ¬ IsCid v
@@ -52,7 +52,7 @@ abbrev pub BytesRefused : List ℕ → Stage → Refusal → Type 0
 BytesRefused v s refusal.NoCid = (s ≡ stage.Link) × ¬ IsCid v
 BytesRefused v s r = ItemRefused s r
 
--- what comes only at this stage is refused elsewhere, or a growth was refused
+-- a call that is right only at this stage is refused at others, or the allocator refused memory
 abbrev pub OnlyAt : Stage → Stage → Refusal → Type 0
 OnlyAt wanted s refusal.OutOfMemory = ⊤
 OnlyAt wanted s refusal.Misplaced = s ≢ wanted

@@ -1,4 +1,4 @@
--- What is read of a source, and why it is refused.
+-- What is read from a source, and why it is refused.
 use Rattle.std.specs.Prelude.{◌≡◌, ℕ, ◌+◌, ◌≤◌, List, length, Option, Some, Result, MatchResult, Vec, ⊤}
 use Rattle.std.specs.declared.alloc.Global.{Global}
 use Rattle.dagcbor_heads.specs.Reading.{Reading}
@@ -15,7 +15,7 @@ use Rattle.dagcbor_items.specs.Untyped.{TakesItem, HasItem}
 use Rattle.dagcbor_serde.specs.declared.error.Error.{Error}
 use Rattle.dagcbor_serde.specs.declared.error.Error.TheVariants.{NoBlock, Misfit}
 
--- An item is taken and its spelling answered exactly where one stands, within the steps.
+-- An item is taken and its spelling returned exactly if one is at the front, within the steps.
 abbrev pub PullsBlock : {E : Type 0} → Reading → Result (Vec ℕ Global) (DecodeError E) → Reading
     → Type 0
 PullsBlock old result new = MatchResult result
@@ -28,12 +28,12 @@ PullsBlock old result new = MatchResult result
 abbrev pub IsSomeBlock : List ℕ → Type 0
 IsSomeBlock b = (t : Tree) × IsBlock b t
 
--- the bytes are a block, and these are they
+-- the bytes are a block, and v is the same bytes
 abbrev pub IsBlockWith : List ℕ → List ℕ → Type 0
 IsBlockWith b v = (v ≡ b) × IsSomeBlock b
 
--- why a source is refused: for a fault of its own, for want of memory, or for what the format's
--- function refuses its bytes
+-- why a source is refused: it faulted, memory ran out, or the format's function rejects its bytes
+-- for this cause
 abbrev pub SourceRefused : {E : Type 0} → DecodeError E → List ℕ → Type 0
 SourceRefused (Read e) b = ⊤
 SourceRefused OutOfMemory b = ⊤
@@ -46,22 +46,22 @@ IsSourceMisfit (Misfit m at) b = IsSomeBlock b × (at ≤ length b)
 
 -- ---- its first block
 
--- the bytes v of a block stand first, and exactly what follows them is left
+-- the bytes v of a block are first, and exactly what comes after them is left
 abbrev pub TakesBlockBytes : List ℕ → List ℕ → Option (List ℕ) → Type 0
 TakesBlockBytes b v left = (t : Tree) × (rest : List ℕ) × IsFront b t rest × IsBlock v t
     × (left ≡ Some rest)
 
--- some block stands first, and exactly what follows it is left
+-- some block is first, and exactly what comes after it is left
 abbrev pub TakesSomeBlock : List ℕ → Option (List ℕ) → Type 0
 TakesSomeBlock b left = (v : List ℕ) × TakesBlockBytes b v left
 
--- why no first block is read
+-- why a first block is not read
 abbrev pub FirstRefused : {E : Type 0} → DecodeError E → List ℕ → Type 0
 FirstRefused (Read e) b = ⊤
 FirstRefused OutOfMemory b = ⊤
 FirstRefused e b = IsRefusal (decode_first b) e
 
--- why no first block is read; or one was taken, and the type does not accept it
+-- why a first block is not read; or one was taken, and the type does not accept it
 abbrev pub IsFirstMisfit : {E : Type 0} → Error E → List ℕ → Option (List ℕ) → Type 0
 IsFirstMisfit (NoBlock e) b left = FirstRefused e b
 IsFirstMisfit (Misfit m at) b left = (v : List ℕ) × TakesBlockBytes b v left × (at ≤ length v)

@@ -11,8 +11,8 @@ use serde::{
 };
 use std::alloc::Global;
 
-/// Any data. To a format that does not know links or bytes, they are as a `Link` and a `ByteBuf`
-/// are.
+/// Any data. For a format that does not know links or bytes, they are written as a `Link` and a
+/// `ByteBuf` are.
 #[derive(Debug, Drop, PartialEq)]
 pub struct Any(pub Ipld);
 

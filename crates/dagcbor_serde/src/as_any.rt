@@ -12,10 +12,10 @@ use serde::{Deserializer, Format, Kind, Serializer};
 use std::alloc::Global;
 use std::collections::BTreeMap;
 
-/// How many lists and maps may be in each other in what is read: a block has no more.
+/// The most lists and maps that may be nested in what is read: a block has no more.
 const MAX_DEPTH: usize = 128;
 
-/// Writes the data: its events make its tree.
+/// Writes the data. Its events make its tree.
 #[cycle(send)]
 pub fn serialize<S: Serializer>(value: &Ipld, out: &mut S) -> Result<(), S::Error>
     ensures { OnOk result (WritesEvents (tree_of value.now) (S.written out.old) (S.written out.new)) }
@@ -44,7 +44,7 @@ fn send_items<S: Serializer>(items: &Vec<Ipld>, out: &mut S) -> Result<(), S::Er
     out.end_seq()
 }
 
-/// Writes the entries: as a map, or among those of a map into which the next is flattened.
+/// Writes the entries, as a map or among those of the map into which they are flattened.
 #[cycle(send)]
 pub(crate) fn send_entries<S: Serializer>(
     entries: &BTreeMap<String, Ipld>,
@@ -63,7 +63,7 @@ pub(crate) fn send_entries<S: Serializer>(
     out.end_map()
 }
 
-/// Reads data of any kind. What a link is to this format is read as one.
+/// Reads data of any kind. A link of the format is read as a link.
 pub fn deserialize<F: Format>(
     alloc: Global,
     from: &mut Deserializer<'_, '_, F>,
@@ -107,7 +107,7 @@ fn fetch_map_or_link<F: Format>(
     Ok(Ipld::Map(fetch_entries(alloc, from, depth - 1, Taken::new(0))?))
 }
 
-/// Reads the entries of the map that fields did not take before. After them all are taken.
+/// Reads the map's entries that no field took. After that, all entries count as taken.
 pub(crate) fn fetch_rest<F: Format>(
     alloc: Global,
     from: &mut Deserializer<'_, '_, F>,
@@ -122,7 +122,7 @@ pub(crate) fn fetch_rest<F: Format>(
     Ok(entries)
 }
 
-/// The link, where one comes: else the place stays.
+/// Reads a link if one comes next. Otherwise the place stays.
 fn fetch_link<F: Format>(
     alloc: Global,
     from: &mut Deserializer<'_, '_, F>,
@@ -152,7 +152,7 @@ fn fetch_items<F: Format>(
 ) -> Result<Vec<Ipld>, F::Error> {
     from.begin_seq()?;
     let mut items = Vec::new(alloc);
-    // No memory holds as many items.
+    // Memory cannot hold this many items.
     for _ in 0..u64::MAX {
         if !from.next_item()? {
             break;
@@ -173,7 +173,7 @@ fn fetch_entries<F: Format>(
 ) -> Result<BTreeMap<String, Ipld>, F::Error> {
     from.begin_map()?;
     let mut entries = BTreeMap::new(alloc);
-    // No memory holds as many entries.
+    // Memory cannot hold this many entries.
     for _ in 0..u64::MAX {
         if !from.next_entry()? {
             break;
@@ -198,7 +198,7 @@ fn pass_entry<F: Format>(from: &mut Deserializer<'_, '_, F>) -> Result<(), F::Er
     from.skip()
 }
 
-/// Why no entry is read where a field may have taken it. No other variant of an untagged enum is
+/// Refuses to read an entry that a field may have taken. No other variant of an untagged enum is
 /// tried after that.
 fn too_late<F: Format>(from: &mut Deserializer<'_, '_, F>) -> F::Error {
     from.swap_taken(Some(ALL));

@@ -23,7 +23,7 @@ pub fn serialize<S: Serializer>(cid: &Cid, out: &mut S) -> Result<(), S::Error>
     out.end_map()
 }
 
-/// Reads a link: the binary form at the only entry.
+/// Reads a link: the binary form of the CID in its one entry.
 pub fn deserialize<F: Format>(
     alloc: Global,
     from: &mut Deserializer<'_, '_, F>,
@@ -39,7 +39,7 @@ pub fn deserialize<F: Format>(
     }
 }
 
-/// The CID of the binary form, where it stands in the input, or else in memory.
+/// Reads the CID from its binary form, in place in the input if possible, and otherwise in memory.
 #[inline(always)]
 fn fetch_cid<F: Format>(
     alloc: Global,

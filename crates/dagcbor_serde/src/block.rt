@@ -1,5 +1,5 @@
-//! A block as a `Format` of serde's: its heads, one by one. The block was judged before, so that
-//! nothing is looked at twice but what is read.
+//! A block as a `Format` of serde: its heads, one by one. The block was validated before, so only
+//! what is read is looked at again.
 
 ghost use Rattle.std.specs.Prelude.{◌≤◌, length};
 
@@ -12,7 +12,7 @@ use smallvec::SmallVec;
 use std::alloc::Global;
 use std::str::from_utf8;
 
-/// What of a link is read, where one is.
+/// How far the reading of a link has come.
 #[derive(Clone, Copy, Drop, PartialEq, Eq)]
 pub(crate) enum LinkStage {
     /// No link is being read.
@@ -32,7 +32,7 @@ pub(crate) struct Block<'r> {
     rest: &'r [u8],
     /// How many items or entries of the innermost list or map are not read yet.
     left: u64,
-    /// How many are not read yet of those around it, the outermost first.
+    /// The same for the lists and maps around it, the outermost first.
     around: SmallVec<u64, 8>,
     link: LinkStage,
 }
@@ -45,7 +45,8 @@ pub(crate) struct Mark<'r> {
     link: LinkStage,
 }
 
-/// The argument of the head at the front, where it has this major type, and what follows it.
+/// Returns the argument of the head at the front and the bytes after it, if the head has this major
+/// type.
 #[inline(always)]
 fn split_argument(rest: &[u8], major: u8) -> Option<(u64, &[u8])> {
     match split_head(rest) {
@@ -54,8 +55,8 @@ fn split_argument(rest: &[u8], major: u8) -> Option<(u64, &[u8])> {
     }
 }
 
-/// What follows this name, where it stands at the front as a key. A name in another case, or with
-/// others beside it, is not looked for.
+/// Returns the bytes after this name, if it is the key at the front. It does not handle a name in
+/// another case, or one with aliases.
 #[inline(always)]
 fn behind_name<'a>(rest: &'a [u8], name: &str) -> Option<&'a [u8]> {
     let (first, behind) = rest.split_first()?;
@@ -71,8 +72,8 @@ fn behind_name<'a>(rest: &'a [u8], name: &str) -> Option<&'a [u8]> {
     Some(behind)
 }
 
-/// Why no item of the wanted kind is taken. Made in place: an answer whose room a call is handed is
-/// cleared first.
+/// Returns why an item is not of the expected kind. It builds the result in place, because room for
+/// a result that is passed to a call is cleared first.
 #[inline(always)]
 fn mismatch(rest: &[u8]) -> Misfit {
     match rest.first() {
@@ -81,7 +82,7 @@ fn mismatch(rest: &[u8]) -> Misfit {
     }
 }
 
-/// What was taken, or else why nothing was.
+/// Takes out the value, or returns the reason why nothing was taken.
 macro_rules! taken {
     ($block:ident, $taken:expr) => {
         match $taken {
@@ -91,7 +92,7 @@ macro_rules! taken {
     };
 }
 
-/// Whether this is the name of a link, for which no map is asked but that of a link.
+/// Returns whether this is the name of a link. Only the map of a link is read with this name.
 #[inline(always)]
 fn is_link_name(names: &[Name<'_>]) -> bool {
     match names {
@@ -110,7 +111,7 @@ impl<'r> Block<'r> {
         }
     }
 
-    /// All was read.
+    /// Checks that all was read.
     pub(crate) fn end(&self) -> Result<(), Misfit> {
         if self.rest.is_empty() {
             Ok(())
@@ -119,14 +120,14 @@ impl<'r> Block<'r> {
         }
     }
 
-    /// The place of what is not read yet in the bytes.
+    /// Returns the offset in the bytes at which the unread part begins.
     pub(crate) fn place_in(&self, bytes: &[u8]) -> usize
         ensures { result ≤ length bytes.now }
     {
         bytes.len().saturating_sub(self.rest.len())
     }
 
-    /// The argument of the head at the front, where it has this major type.
+    /// Takes the head at the front and returns its argument, if it has this major type.
     #[inline(always)]
     fn take_argument(&mut self, major: u8) -> Option<u64> {
         match split_argument(self.rest, major) {
@@ -138,13 +139,13 @@ impl<'r> Block<'r> {
         }
     }
 
-    /// Whether no part of a link is due.
+    /// Returns whether the next read is outside a link.
     #[inline(always)]
     fn is_outside(&self) -> bool {
         matches!(self.link, LinkStage::Nowhere)
     }
 
-    /// The bytes of the string at the front, where it has this major type.
+    /// Takes the string at the front and returns its bytes, if it has this major type.
     #[inline(always)]
     fn take_payload(&mut self, major: u8) -> Option<&'r [u8]> {
         let n = self.take_argument(major)?;
@@ -175,7 +176,7 @@ impl<'r> Block<'r> {
         self.take_payload(2)
     }
 
-    /// The binary form after the tag and the zero byte.
+    /// Takes the binary form of a CID, after the tag and the zero byte.
     #[inline(always)]
     fn take_cid(&mut self) -> Option<&'r [u8]> {
         let [0xd8, 0x2a, 0x58, count, 0x00, behind @ ..] = self.rest else {
@@ -191,7 +192,7 @@ impl<'r> Block<'r> {
         Some(cid)
     }
 
-    /// The binary form, with heads of any length.
+    /// Takes the binary form of a CID, with heads of any length.
     #[inline(never)]
     fn take_any_cid(&mut self) -> Option<&'r [u8]> {
         let (_, _, payload) = split_head(self.rest)?;
@@ -202,7 +203,7 @@ impl<'r> Block<'r> {
         Some(cid)
     }
 
-    /// The major type and the argument of the integer at the front, and what follows it.
+    /// Returns the major type and the argument of the integer at the front, and the bytes after it.
     #[inline(always)]
     fn number(&self) -> Option<(u8, u64, &'r [u8])> {
         match split_head(self.rest) {
@@ -213,14 +214,14 @@ impl<'r> Block<'r> {
         }
     }
 
-    /// The integer at the front, and what follows it.
+    /// Returns the integer at the front, and the bytes after it.
     fn integer(&self) -> Option<(i128, &'r [u8])> {
         let (major, argument, behind) = self.number()?;
         let v = argument as i128;
         Some((if major == 0 { v } else { -1 - v }, behind))
     }
 
-    /// Goes into a list or map of so many items or entries.
+    /// Enters a list or map of `count` items or entries.
     #[inline(always)]
     fn enter(&mut self, count: u64) -> Result<(), Misfit> {
         match self.around.push(self.left) {
@@ -232,7 +233,7 @@ impl<'r> Block<'r> {
         }
     }
 
-    /// Whether an item or entry comes; at the end it goes out of the list or map.
+    /// Returns whether an item or entry comes next. At the end it leaves the list or map.
     #[inline(always)]
     fn comes(&mut self) -> bool {
         if self.left > 0 {
@@ -243,7 +244,7 @@ impl<'r> Block<'r> {
         false
     }
 
-    /// The index of the key among the names.
+    /// Takes the key and returns its index among the names.
     #[inline(always)]
     fn take_key(&mut self, names: &[Name<'_>]) -> Option<usize> {
         for (at, name) in names.iter().enumerate() {
@@ -258,7 +259,7 @@ impl<'r> Block<'r> {
         self.take_name(names)
     }
 
-    /// The index of the text at the front among the names.
+    /// Takes the text at the front and returns its index among the names.
     #[inline(never)]
     fn take_name(&mut self, names: &[Name<'_>]) -> Option<usize> {
         Some(find(names, self.take_text()?))
@@ -270,13 +271,13 @@ impl<'r> Block<'r> {
         self.enter(count)
     }
 
-    /// The end of a link, for whoever knows no name of it.
+    /// Ends a link, for a reader that expects no name.
     #[inline(never)]
     fn end_link(&mut self) -> Option<Option<usize>> {
         self.next_link_key(&[])
     }
 
-    /// The name of a link, and its end.
+    /// Reads the name of a link, or its end.
     #[inline(always)]
     fn next_link_key(&mut self, names: &[Name<'_>]) -> Option<Option<usize>> {
         match self.link {
@@ -439,7 +440,7 @@ impl<'r> Format for Block<'r> {
         self.begin_entries()
     }
 
-    /// A list of the fields is no struct.
+    /// A struct cannot be read from a list of its fields.
     #[inline(always)]
     fn begin_struct(&mut self, _input: &[u8]) -> Result<bool, Misfit> {
         let count = taken!(self, self.take_argument(5));

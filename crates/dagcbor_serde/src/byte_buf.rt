@@ -7,7 +7,7 @@ use serde::{
 };
 use std::alloc::Global;
 
-/// Bytes that are written as a byte string: a `Vec<u8>` is a list of numbers.
+/// Bytes that are written as a byte string. A `Vec<u8>` is written as a list of numbers.
 #[derive(Debug, Drop, PartialEq, Eq)]
 pub struct ByteBuf(pub Vec<u8>);
 

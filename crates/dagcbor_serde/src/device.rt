@@ -12,7 +12,7 @@ use serde::Serialize;
 use std::alloc::Global;
 use std::io;
 
-/// Pushes what `to_vec` answers. Nothing is pushed of a value that is refused.
+/// Appends the bytes that `to_vec` returns. If the value is refused, it appends nothing.
 pub fn push_value<W: Write, T: Serialize>(
     alloc: Global,
     writer: &mut W,
@@ -34,7 +34,8 @@ pub fn push_value<W: Write, T: Serialize>(
     }
 }
 
-/// Writes what `to_vec` answers to a device of std. Nothing is written of a value that is refused.
+/// Writes the bytes that `to_vec` returns to a device of std. If the value is refused, it writes
+/// nothing.
 pub fn to_writer<W: io::Write, T: Serialize>(
     alloc: Global,
     writer: &mut W,

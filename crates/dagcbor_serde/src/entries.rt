@@ -1,4 +1,4 @@
-//! The entries of a map, which stand in one buffer, and their order.
+//! The entries of a map, all in one buffer, and their order.
 
 ghost use Rattle.std.specs.Prelude.{◌≡◌, ◌<◌, ◌++◌, length, map, IsTrue, OnOk, IfErr, IsPermutation};
 ghost use Rattle.std.specs.List.{All, slice_range, flat_map};
@@ -11,11 +11,11 @@ use crate::error::Refusal;
 use crate::frame::push;
 use dagcbor_write::{Span, entry_bytes, entry_key, put_in_order};
 
-/// How many entries are sorted by moving each one back to its place.
+/// The most entries that are sorted by moving each one back to its place.
 const FEW: usize = 16;
 
-/// Whether a key stands before another by the first byte in which they differ. A key begins with
-/// its length, so none begins another one.
+/// Returns whether a key comes before another by the first byte in which they differ. A key begins
+/// with its length, so no key is the beginning of another.
 #[inline(always)]
 fn stands_before(a: &[u8], b: &[u8]) -> bool
     ensures { IsTrue result → StandsBefore a.now b.now }
@@ -28,7 +28,7 @@ fn stands_before(a: &[u8], b: &[u8]) -> bool
     false
 }
 
-/// Whether each entry's key stands before the next one's.
+/// Returns whether each entry's key comes before the next one's.
 pub(crate) fn are_in_order(bytes: &[u8], spans: &[Span]) -> bool
     ensures { IsTrue result → All (IsWithin (length bytes.now)) spans.now
         → AreInOrder (map (entry_at bytes.now) spans.now) }
@@ -64,7 +64,7 @@ fn move_each_back(bytes: &[u8], spans: &mut [Span])
     }
 }
 
-/// Sorts entries if they are few, and says whether they are in order now.
+/// Sorts the entries if they are few, and returns whether they are in order now.
 fn sort_few(bytes: &[u8], spans: &mut [Span]) -> bool
     ensures moved { IsPermutation spans.old spans.new }
     ensures order { IsTrue result → All (IsWithin (length bytes.now)) spans.new
@@ -77,7 +77,7 @@ fn sort_few(bytes: &[u8], spans: &mut [Span]) -> bool
     are_in_order(bytes, spans)
 }
 
-/// Sorts entries by their bytes, and says whether no key is repeated.
+/// Sorts the entries by their bytes, and returns whether no key is repeated.
 pub(crate) fn sort(bytes: &[u8], spans: &mut [Span]) -> bool
     ensures order { All (IsWithin (length bytes.now)) spans.old
         → PutsInOrder (map (entry_at bytes.now) spans.old)

@@ -8,28 +8,27 @@ use std::fmt::{Debug, Display, Formatter};
 /// Why a value was not written.
 #[derive(Clone, Copy, Debug, Drop, PartialEq, Eq)]
 pub enum WriteError {
-    /// A growth was refused.
+    /// The allocator refused memory.
     OutOfMemory,
     /// A float was sent.
     Float,
     /// An integer below -2^64, or of 2^64 or more, was sent.
     OutOfRange,
-    /// The key of a map is no text.
+    /// The key of a map is not a text.
     KeyIsNoText,
     /// Two entries of a map have the same key.
     RepeatedKey,
-    /// The bytes of a link are no CID.
+    /// The bytes of a link are not a CID.
     NoCid,
     /// A flattened value is neither a map nor null.
     FlattensNoMap,
-    /// The calls are those of no value, as an entry without a key.
+    /// The order of the calls does not make a value: an entry without a key, for example.
     Misplaced,
     /// A type refused, with a message of its own.
     Custom(Name),
 }
 
-/// Why an event was refused: what `WriteError` says, without a message, so that it stays in a
-/// register.
+/// Why an event was refused: `WriteError` without a message, so that it stays in a register.
 #[derive(Clone, Copy, Drop, PartialEq, Eq)]
 pub(crate) enum Refusal {
     OutOfMemory,
@@ -42,7 +41,8 @@ pub(crate) enum Refusal {
 }
 
 impl Refusal {
-    /// The public cause. Made in place: an answer whose room a call is handed is cleared first.
+    /// Returns the public cause. It builds the result in place, because room for a result that is
+    /// passed to a call is cleared first.
     #[inline(always)]
     pub(crate) fn cause(self) -> WriteError {
         match self {
@@ -57,7 +57,7 @@ impl Refusal {
     }
 }
 
-/// The text of `Debug`.
+/// Writes the text of `Debug`.
 impl Display for WriteError {
     fn fmt<W: fmt::Write>(&self, f: &mut Formatter<W>) -> fmt::Result {
         Debug::fmt(self, f)
@@ -69,25 +69,25 @@ impl StdError for WriteError {}
 /// Why a type did not accept a block.
 #[derive(Clone, Copy, Debug, Drop, PartialEq, Eq)]
 pub enum Misfit {
-    /// A growth was refused.
+    /// The allocator refused memory.
     OutOfMemory,
-    /// An item of another kind is wanted than that which begins with this byte.
+    /// The item that begins with this byte is not of the expected kind.
     Mismatch(u8),
-    /// A number is outside the wanted type.
+    /// A number is outside the range of the expected type.
     OutOfRange,
-    /// A float is wanted, and there are none.
+    /// A float is expected, and the format has none.
     Float,
-    /// The field that has this name is missing.
+    /// The field with this name is missing.
     MissingField(Name),
-    /// The field that has this name comes twice.
+    /// The field with this name comes twice.
     DuplicateField(Name),
     /// No field has this key.
     UnknownField,
     /// No variant has this name.
     UnknownVariant,
-    /// A tuple has another number of items.
+    /// A tuple has a different number of items.
     WrongLength,
-    /// No value of the type is this one.
+    /// The type has no such value.
     Invalid,
     /// The type left items unread.
     Unread,
@@ -97,7 +97,7 @@ pub enum Misfit {
     Custom(Name),
 }
 
-/// The text of `Debug`.
+/// Writes the text of `Debug`.
 impl Display for Misfit {
     fn fmt<W: fmt::Write>(&self, f: &mut Formatter<W>) -> fmt::Result {
         Debug::fmt(self, f)
@@ -109,14 +109,14 @@ impl StdError for Misfit {}
 /// Why a value was not read. `E` is the source's error.
 #[derive(Debug, Drop)]
 pub enum Error<E> {
-    /// No block was read: the bytes are none, or the source faulted.
+    /// No block was read: the bytes are not one, memory ran out, or the source faulted.
     NoBlock(DecodeError<E>),
-    /// The type does not accept the block, for this cause. The reader stood at this place in it: at
-    /// the item that it did not take, or after what it took before it refused.
+    /// The type does not accept the block, for this cause. `at` is the offset of the reader in the
+    /// block: at the item that the type did not take, or after what it took before it refused.
     Misfit { cause: Misfit, at: usize },
 }
 
-/// The text of `Debug`.
+/// Writes the text of `Debug`.
 impl<E: Debug> Display for Error<E> {
     fn fmt<W: fmt::Write>(&self, f: &mut Formatter<W>) -> fmt::Result {
         Debug::fmt(self, f)
@@ -130,11 +130,11 @@ impl<E: StdError> StdError for Error<E> {}
 pub enum DeviceError<E> {
     /// The value was refused, and nothing was written.
     Value(WriteError),
-    /// The device refused the bytes, and has a beginning of them.
+    /// The device refused the bytes, and may hold the first of them.
     Device(EncodeError<E>),
 }
 
-/// The text of `Debug`.
+/// Writes the text of `Debug`.
 impl<E: Debug> Display for DeviceError<E> {
     fn fmt<W: fmt::Write>(&self, f: &mut Formatter<W>) -> fmt::Result {
         Debug::fmt(self, f)

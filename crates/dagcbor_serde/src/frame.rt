@@ -1,4 +1,4 @@
-//! What is open: the whole, a list, a map or a link, as places in the bytes of all.
+//! What is open: the whole value, a list, a map or a link, as offsets in the buffer of all bytes.
 
 ghost use Rattle.std.specs.Prelude.{IfErr, ◌≡◌, ◌≢◌, ◌≤◌, ◌<◌, ◌+◌, ◌++◌, ◌∷◌, length, take, drop, OnOk, MatchBool};
 ghost use Rattle.dagcbor_core.specs.Head.{head};
@@ -7,19 +7,19 @@ ghost use Rattle.dagcbor_serde.specs.Refusing.{LacksMemory, LacksMemoryOrPlace, 
 use crate::error::Refusal;
 use dagcbor_heads::{Write, push_head, push_head_at_once};
 
-/// What is open, and what it wants next.
+/// What is open, and what it expects next.
 #[derive(Clone, Copy, Default, Drop, PartialEq, Eq)]
 pub(crate) enum Stage {
-    /// The whole, before its item.
+    /// The whole value, before its item.
     #[default]
     Vacant,
-    /// The whole, after its item.
+    /// The whole value, after its item.
     Full,
     /// A list.
     List,
-    /// A map that wants a key.
+    /// A map that expects a key.
     Rests,
-    /// A map whose next value is a key.
+    /// A map that takes the next value as a key.
     WantsKey,
     /// A map whose key waits for its value.
     WantsValue,
@@ -31,17 +31,18 @@ pub(crate) enum Stage {
     Linked,
 }
 
-/// What is open. Its bytes stand after those of what is around it, and its entries after theirs.
+/// A list, map, link or whole value that is open. Its bytes come after those of what is around it,
+/// and so do its entries.
 #[derive(Clone, Copy, Default, Drop)]
 pub(crate) struct Frame {
     pub(crate) stage: Stage,
-    /// Where its bytes begin: those of a list or a map with one byte, in whose place its head comes.
+    /// Where its bytes begin. A list or map begins with one byte, which its head replaces later.
     pub(crate) place: usize,
     /// Where its entries begin.
     pub(crate) first: usize,
     /// How many items a list has.
     pub(crate) count: usize,
-    /// Where the key that waits begins.
+    /// Where the key begins that waits for its value.
     pub(crate) key: usize,
     /// How many open maps give their entries to this one.
     pub(crate) flat: usize,
@@ -79,7 +80,7 @@ pub(crate) fn push(out: &mut Vec<u8>, bytes: &[u8]) -> Result<(), Refusal>
         .map_err(|_| Refusal::OutOfMemory)
 }
 
-/// Appends the shortest head and nothing after it.
+/// Appends the shortest head.
 #[inline(always)]
 pub(crate) fn append_head(out: &mut Vec<u8>, major: u8, argument: u64) -> Result<(), Refusal>
     requires { major ≤ 7 }
@@ -92,7 +93,7 @@ pub(crate) fn append_head(out: &mut Vec<u8>, major: u8, argument: u64) -> Result
     append_slowly(out, major, argument, &[])
 }
 
-/// Appends the shortest head and what follows it.
+/// Appends the shortest head and the bytes after it.
 #[tactic(auto, unfolding(dagcbor_core::specs::Head::head))]
 #[inline(always)]
 pub(crate) fn append(
@@ -126,7 +127,7 @@ fn append_slowly(out: &mut Vec<u8>, major: u8, argument: u64, payload: &[u8]) ->
     push(out, payload)
 }
 
-/// Appends a link: its tag, and the byte string of a zero byte and the CID.
+/// Appends a link: its tag, and a byte string of a zero byte and the CID.
 #[tactic(auto, unfolding(dagcbor_core::specs::Head::head))]
 #[inline(always)]
 pub(crate) fn append_link(out: &mut Vec<u8>, cid: &[u8]) -> Result<(), Refusal>
@@ -160,7 +161,7 @@ fn append_link_slowly(out: &mut Vec<u8>, cid: &[u8]) -> Result<(), Refusal>
     push(out, cid)
 }
 
-/// Puts the head of so many items or entries into the place of the byte there.
+/// Replaces the byte at `place` by the head of `count` items or entries.
 #[tactic(auto, unfolding(dagcbor_core::specs::Head::head))]
 #[inline(always)]
 pub(crate) fn set_head(
@@ -182,7 +183,7 @@ pub(crate) fn set_head(
     insert_head(out, room, place, major, count)
 }
 
-/// Puts a head of more bytes into the place of the byte there: what follows is moved.
+/// Replaces the byte at `place` by a head that may be longer, and moves the bytes after it.
 #[inline(never)]
 fn insert_head(
     out: &mut Vec<u8>,
@@ -206,7 +207,7 @@ fn insert_head(
     push(out, room)
 }
 
-/// Puts other bytes after the byte at this place.
+/// Replaces all bytes after the one at `place` by `bytes`.
 pub(crate) fn replace_behind(out: &mut Vec<u8>, place: usize, bytes: &[u8]) -> Result<(), Refusal>
     ensures replaced { OnOk result (out.new.items ≡ take (place + 1) out.old.items ++ bytes.now) }
     ensures refused { IfErr result LacksMemoryOrPlace }
@@ -218,7 +219,7 @@ pub(crate) fn replace_behind(out: &mut Vec<u8>, place: usize, bytes: &[u8]) -> R
     push(out, bytes)
 }
 
-/// Why an item may not come.
+/// Returns why an item may not come here.
 #[cold]
 #[inline(never)]
 pub(crate) fn misplaced(stage: Stage) -> Refusal

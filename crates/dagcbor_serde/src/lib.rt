@@ -1,5 +1,5 @@
-//! DAG-CBOR as a format of serde's: a type derives `Serialize` and `Deserialize`, and nothing else is
-//! written of it.
+//! DAG-CBOR as a format of serde: a type derives `Serialize` and `Deserialize`, and that is all its
+//! code.
 //!
 //! ```rust
 //! #[derive(Debug, Drop, PartialEq, Serialize, Deserialize)]

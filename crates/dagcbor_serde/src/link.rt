@@ -13,12 +13,12 @@ use serde::{
 };
 use std::alloc::Global;
 
-/// A link: it is written as tag 42, and read from it. To another format it is a map of one entry,
+/// A link. It is written as tag 42, and read from it. For another format it is a map of one entry,
 /// `/`, whose value is the binary form of the CID.
 #[derive(Clone, Copy, Debug, Drop, PartialEq, Eq)]
 pub struct Link(pub Cid);
 
-/// The name by which a format knows a link.
+/// The name that marks a link for a format.
 pub(crate) const LINK: Name<'static> = Name {
     name: LINK_NAME,
     kind: NameKind::Field,

@@ -1,4 +1,4 @@
-//! The events that a writer was sent. They exist only in proofs.
+//! The events that were sent to a writer. They exist only in proofs.
 
 ghost use Rattle.std.specs.Prelude.{◌≡◌, [], Some};
 ghost use base.Fml.{ftrue};
@@ -44,14 +44,14 @@ pub(crate) enum Note<'a> {
 impl Log {
     ghost use Rattle.dagcbor_serde.specs.Noted.{noted};
 
-    /// None so far.
+    /// Makes a log without events.
     pub(crate) fn new() -> Log
         ensures { result.events ≡ Some [] }
     {
         Log {}
     }
 
-    /// And then this one.
+    /// Returns the log with this event added.
     #[inline(always)]
     pub(crate) fn then(&self, _note: &Note<'_>) -> Log
         ensures { result.events ≡ noted self.now.events _note.now }

@@ -15,9 +15,9 @@ use std::collections::BTreeMap;
 /// The entries that no field takes: `#[serde(flatten)] rest: Rest`. They are written among those of
 /// the fields.
 ///
-/// Only a derive can say of a type that it shares a map with fields. It says so here, for each `E`,
-/// and reads a map with a field `entries` where `E` is read too. `Entries` is not: a `Rest` of these
-/// is read by hand, below.
+/// Only a derive can say that a type shares a map with fields. It says so here for each `E`, and it
+/// reads a map with a field `entries` if `E` can be read. `Entries` cannot: a `Rest` of these is
+/// read by hand, below.
 #[derive(Debug, Drop, PartialEq, Deserialize)]
 pub struct Rest<E = Entries> {
     pub entries: E,

@@ -1,4 +1,4 @@
-//! The bytes of a value, event by event.
+//! The bytes of a value, made event by event.
 
 ghost use Rattle.std.specs.Prelude.{◌≡◌, ◌≤◌, ◌+◌, ◌^◌, ◌++◌, [], ◌∷◌, List, length, take, drop, OnOk, IfOk, IfErr};
 ghost use Rattle.std.specs.Prelude.{encode_utf8, pos};
@@ -25,13 +25,13 @@ use smallvec::SmallVec;
 use std::alloc::Global;
 use std::mem;
 
-/// The name of the one entry of a link, in a case that no derive sends it in: that of a field which
-/// is renamed is `AsIs`, and any other name is an identifier.
+/// The name of the one entry of a link. Its case is one that no derive sends with it: a renamed
+/// field has `AsIs`, and any other name is an identifier.
 pub(crate) const LINK_NAME: &str = "/";
 
 pub(crate) const LINK_CASE: Case = Case::Kebab;
 
-/// Whether this is the name of a link.
+/// Returns whether this is the name of a link.
 #[inline(always)]
 pub(crate) fn is_link_name(name: &str, case: Case) -> bool
     ensures { result ≡ is_link_name name.now case }
@@ -39,19 +39,19 @@ pub(crate) fn is_link_name(name: &str, case: Case) -> bool
     matches!(case, Case::Kebab) && matches!(name.as_bytes(), b"/")
 }
 
-/// What was sent so far.
+/// The bytes of what was sent so far.
 #[derive(Drop)]
 pub(crate) struct Sink {
     alloc: Global,
-    /// The bytes of all that is open, the whole first.
+    /// The bytes of all that is open, the whole value first.
     bytes: Vec<u8>,
-    /// Where the entries of the open maps stand.
+    /// Where the entries of the open maps are.
     spans: SmallVec<Span, 8>,
-    /// The innermost that is open.
+    /// The innermost open value.
     top: Frame,
-    /// Those around it, the whole first.
+    /// The open values around it, the whole value first.
     below: SmallVec<Frame, 4>,
-    /// Room for bytes that change their place.
+    /// Room for bytes that are moved.
     room: Vec<u8>,
     /// Room for a name in another case.
     name: String,
@@ -77,7 +77,7 @@ impl Sink {
         self.alloc
     }
 
-    /// The bytes, where one whole value was sent.
+    /// Returns the bytes, if one whole value was sent.
     pub(crate) fn into_bytes(self) -> Result<Vec<u8>, Refusal>
         ensures { IfOk result (λ v. (s : State) → HoldsAll s self
             → (t : Tree) × (finished s ≡ Some t) × IsGood t v.items) }
@@ -97,7 +97,7 @@ impl Sink {
 
 // Items, which come after all bytes.
 impl Sink {
-    /// Puts an item of a head alone.
+    /// Appends an item that is only a head.
     fn put_head(&mut self, major: u8, argument: u64) -> Result<(), Refusal>
         requires { major ≤ 7 }
         ensures put { OnOk result (PutsSpelling (head major argument) self.old self.new) }
@@ -108,7 +108,7 @@ impl Sink {
         self.land(from)
     }
 
-    /// Puts an item of a head and what follows it.
+    /// Appends an item of a head and the bytes after it.
     fn put(&mut self, major: u8, argument: u64, payload: &[u8]) -> Result<(), Refusal>
         requires { major ≤ 7 }
         ensures put { OnOk result (PutsSpelling (head major argument ++ payload.now) self.old self.new) }
@@ -119,7 +119,7 @@ impl Sink {
         self.land(from)
     }
 
-    /// The item whose bytes stand from there to the end came.
+    /// Notes an item whose bytes go from `from` to the end.
     #[inline(always)]
     fn land(&mut self, from: usize) -> Result<(), Refusal>
         ensures same { (self.new.bytes ≡ self.old.bytes) × (self.new.below ≡ self.old.below) }
@@ -179,7 +179,7 @@ impl Sink {
         }
     }
 
-    /// Takes the text as a key, whose value comes next.
+    /// Takes the text as a key. Its value comes next.
     #[inline(always)]
     fn wait(&mut self, v: &str) -> Result<(), Refusal>
         ensures top { OnOk result (self.new.top ≡ record self.old.top {
@@ -200,7 +200,7 @@ impl Sink {
     }
 }
 
-// What is sent to the innermost.
+// Events that go to the innermost open value.
 impl Sink {
     #[tactic(auto, using(crate::proofs::Opening::puts_good, crate::proofs::Leaves::good_true, crate::proofs::Leaves::good_false))]
     pub(crate) fn bool(&mut self, v: bool) -> Result<(), Refusal>
@@ -248,7 +248,7 @@ impl Sink {
         }
     }
 
-    /// Puts a text, which may be a key.
+    /// Appends a text, which may be a key.
     pub(crate) fn text(&mut self, v: &str) -> Result<(), Refusal>
         ensures moved { OnOk result (MovesTop (put (text v.now)) self.old self.new) }
         ensures refused { IfErr result (TextRefused self.old.top.stage) }
@@ -259,7 +259,7 @@ impl Sink {
         }
     }
 
-    /// Puts the name of a field or a variant.
+    /// Appends the name of a field or a variant.
     #[inline(always)]
     fn key(&mut self, v: &str) -> Result<(), Refusal>
         ensures moved { OnOk result (MovesTop (put_key v.now) self.old self.new) }
@@ -271,7 +271,7 @@ impl Sink {
         }
     }
 
-    /// Puts a byte string, or the CID of a link.
+    /// Appends a byte string, or the CID of a link.
     pub(crate) fn bytes(&mut self, v: &[u8]) -> Result<(), Refusal>
         ensures moved { OnOk result (MovesTop (put_bytes v.now) self.old self.new) }
         ensures refused { IfErr result (BytesRefused v.now self.old.top.stage) }
@@ -282,7 +282,7 @@ impl Sink {
         }
     }
 
-    /// Puts the CID of a link.
+    /// Appends the CID of a link.
     fn cid(&mut self, v: &[u8]) -> Result<(), Refusal>
         requires { self.old.top.stage ≡ Stage.Link }
         ensures moved { OnOk result (MovesTop (put_bytes v.now) self.old self.new) }
@@ -296,7 +296,7 @@ impl Sink {
         Ok(())
     }
 
-    /// Puts null, or flattens nothing.
+    /// Appends null, or flattens nothing.
     pub(crate) fn unit(&mut self) -> Result<(), Refusal>
         ensures moved { OnOk result (MovesTop put_unit self.old self.new) }
         ensures refused { IfErr result (ItemRefused self.old.top.stage) }
@@ -310,7 +310,7 @@ impl Sink {
         }
     }
 
-    /// Makes the map that has just been begun a link.
+    /// Makes the map that was just begun a link.
     fn link(&mut self) -> Result<(), Refusal>
         ensures { OnOk result (MovesTop as_link self.old self.new) }
     {
@@ -361,7 +361,7 @@ impl Sink {
     }
 }
 
-// Calls by a name or a text that is made here.
+// Events whose name or text is built here first.
 impl Sink {
     pub(crate) fn char(&mut self, v: char) -> Result<(), Refusal>
         ensures moved { OnOk result (MovesTop (put (text (encode_utf8 v))) self.old self.new) }
@@ -395,7 +395,7 @@ impl Sink {
         self.cased(name, case, NameKind::Variant, true)
     }
 
-    /// Puts a name in its case.
+    /// Appends a name in its case.
     #[inline(always)]
     fn cased(&mut self, name: &str, case: Case, kind: NameKind, is_key: bool) -> Result<(), Refusal>
         ensures { OnOk result
@@ -407,7 +407,7 @@ impl Sink {
         self.respelled(name, case, kind, is_key)
     }
 
-    /// Puts a name that is spelled anew.
+    /// Appends a name in another spelling.
     #[inline(never)]
     fn respelled(
         &mut self,
@@ -429,7 +429,7 @@ impl Sink {
         result
     }
 
-    /// Puts a name, as a key or as a text.
+    /// Appends a name, as a key or as a text.
     #[inline(always)]
     fn named(&mut self, name: &str, is_key: bool) -> Result<(), Refusal>
         ensures { OnOk result (MovesTop (put_name is_key name.now) self.old self.new) }
@@ -442,7 +442,7 @@ impl Sink {
     }
 }
 
-// What begins and ends.
+// Beginnings and ends.
 impl Sink {
     /// Begins a list or a map.
     fn open(&mut self, stage: Stage) -> Result<(), Refusal>
@@ -459,7 +459,7 @@ impl Sink {
         }
     }
 
-    /// Goes out of the innermost, which is answered.
+    /// Leaves the innermost open value, and returns it.
     #[inline(always)]
     fn leave(&mut self) -> Result<Frame, Refusal>
         ensures frame { IfOk result (λ f. (f ≡ self.old.top)
@@ -505,7 +505,7 @@ impl Sink {
         }
     }
 
-    /// Begins a map whose entries go into the one around it.
+    /// Begins a map whose entries go into the map around it.
     fn begin_flat(&mut self) -> Result<(), Refusal>
         requires { self.old.top.stage ≡ Stage.WantsMap }
         ensures { OnOk result (StepsBy (λ s. begin_map s.top s.around) self.old self.new) }
@@ -547,8 +547,7 @@ impl Sink {
         self.land(map.place)
     }
 
-    /// Puts the entries of the map that has ended in their order, and counts them. They are listed
-    /// no more.
+    /// Puts the entries of the map that ended in order, counts them, and drops them from the list.
     fn put_entries(&mut self, place: usize, first: usize) -> Result<usize, Refusal>
         ensures same { (self.new.top ≡ self.old.top) × (self.new.below ≡ self.old.below) }
         ensures spans { OnOk result (self.new.spans.items ≡ take first self.old.spans.items) }
@@ -565,7 +564,7 @@ impl Sink {
         Ok(count)
     }
 
-    /// Puts entries in order that do not stand so.
+    /// Sorts entries that are not in order, and puts their bytes in that order.
     #[inline(never)]
     fn sort_entries(&mut self, place: usize, first: usize) -> Result<(), Refusal>
         requires { first ≤ length self.old.spans.items }

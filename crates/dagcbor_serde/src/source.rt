@@ -1,4 +1,4 @@
-//! Reading whole values from sources, through the bytes of one block: a `Deserializer` of serde's
+//! Reading whole values from sources, through the bytes of one block: a `Deserializer` of serde
 //! reads a slice.
 
 ghost use Rattle.std.specs.Prelude.{◌≡◌, IfOk, IfErr, OnOk, IfSome};
@@ -19,7 +19,8 @@ use std::alloc::Global;
 use std::io;
 use std::io::BufRead;
 
-/// The bytes of the item at the front, of which no more are asked for than have come.
+/// Takes the item at the front and returns its bytes. An announced length by itself takes no
+/// memory.
 pub(crate) fn pull_block<R: Read>(alloc: Global, input: &mut Input<'_, R>) -> ReadResult<Vec<u8>, R>
     ensures block { OverInput R.reading PullsBlock input.old result input.new }
     ensures variant { IfErr result OfItem }
@@ -31,8 +32,8 @@ pub(crate) fn pull_block<R: Read>(alloc: Global, input: &mut Input<'_, R>) -> Re
     }
 }
 
-/// The bytes of the source, where they are a block: as far as they are one, they are read item by
-/// item, so that no announced length takes memory.
+/// Reads the source's bytes, if they are a block. It reads them item by item as far as they are
+/// one, so that an announced length takes no memory.
 pub fn block_from_reader<R: BufRead + Drop>(
     alloc: Global,
     reader: R,
@@ -49,8 +50,8 @@ pub fn block_from_reader<R: BufRead + Drop>(
     }
 }
 
-/// The bytes of the first block of the source, which has exactly what follows it left. Nothing is
-/// said of what it has left after a refusal.
+/// Reads the bytes of the first block of the source, which is then left with exactly the bytes
+/// after it. After a refusal, nothing is known of the bytes left.
 pub fn block_from_reader_once<R: BufRead>(
     alloc: Global,
     reader: &mut R,
@@ -69,7 +70,7 @@ pub fn block_from_reader_once<R: BufRead>(
     result
 }
 
-/// Reads a value of the type from a source, which is a block as a whole.
+/// Reads a value of the type from a source that is a block as a whole.
 pub fn from_reader<T: DeserializeOwned, R: BufRead + Drop>(
     alloc: Global,
     reader: R,
@@ -83,8 +84,8 @@ pub fn from_reader<T: DeserializeOwned, R: BufRead + Drop>(
     }
 }
 
-/// Reads a value of the type from the first block of a source, which has exactly what follows it
-/// left, also where the type does not accept it.
+/// Reads a value of the type from the first block of a source. The source is then left with exactly
+/// the bytes after the block, even if the type does not accept it.
 pub fn from_reader_once<T: DeserializeOwned, R: BufRead>(
     alloc: Global,
     reader: &mut R,

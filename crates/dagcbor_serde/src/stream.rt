@@ -1,4 +1,4 @@
-//! Streams: values one after the other, up to the end of the source.
+//! Streams: values one after another, up to the end of the source.
 
 ghost use Rattle.std.specs.Prelude.{◌≡◌, [], false};
 ghost use Rattle.dagcbor_core.specs.Steps.{default_steps};
@@ -16,8 +16,8 @@ use std::alloc::Global;
 use std::io::BufRead;
 use std::marker::PhantomData;
 
-/// The values that stand one after the other in a source. After an error, and after the end,
-/// nothing more comes.
+/// An iterator over the values in a source, one after another. It gives nothing after an error, or
+/// after the end.
 #[derive(Drop)]
 pub struct Stream<R, T> {
     alloc: Global,
@@ -26,10 +26,10 @@ pub struct Stream<R, T> {
     output: PhantomData<T>,
 }
 
-/// What a stream gives: a value, or why there is none.
+/// What a stream gives: a value, or why none was read.
 type Item<R, T> = Result<T, Error<<R as Read>::Error>>;
 
-/// The value of the block at the front.
+/// Reads the value of the block at the front.
 #[tactic(auto, using(crate::proofs::Streaming::refused_behind, crate::proofs::Streaming::item_before))]
 fn next_value<R: Read, T: DeserializeOwned>(
     alloc: Global,
@@ -50,11 +50,12 @@ fn next_value<R: Read, T: DeserializeOwned>(
 impl<R: Read, T: DeserializeOwned> Iterator for Stream<R, T> {
     type Item = Item<R, T>;
 
-    // Nothing of a stream that is done; else what reading the next value answers.
+    // A stream that is done gives nothing. Otherwise `next` gives the result of reading the next
+    // value.
     ghost next_gives = { λ old item new. GivesNext (stream_state R.reading old) item
         (stream_state R.reading new) };
 
-    // Of n bytes at most n + 1 items, since a block takes a byte.
+    // There are at most n + 1 items in n bytes, because a block takes at least a byte.
     ghost remaining = { λ s. items_left (stream_state R.reading s) };
 
     fn next(&mut self) -> Option<Item<R, T>> {
@@ -67,7 +68,7 @@ impl<R: Read, T: DeserializeOwned> Iterator for Stream<R, T> {
     }
 }
 
-/// The values in the source.
+/// Returns an iterator over the values in the source.
 pub fn iter_from_reader<T: DeserializeOwned, R: BufRead + Drop>(
     alloc: Global,
     source: R,

@@ -1,4 +1,4 @@
-//! Whole values.
+//! Reading and writing whole values.
 
 ghost use Rattle.std.specs.Prelude.{◌≡◌, ◌≤◌, ℕ, List, [], Some, length, IfOk, IfErr, OnOk};
 ghost use Rattle.serde.specs.Event.{Log};
@@ -14,7 +14,7 @@ use serde::{Deserialize, DeserializeOwned, Deserializer, Serialize};
 use std::alloc::Global;
 use std::convert::Infallible;
 
-/// The one spelling of the tree of the value's events.
+/// Returns the one spelling of the tree of the value's events.
 pub fn to_vec<T: Serialize>(alloc: Global, value: &T) -> Result<Vec<u8>, WriteError>
     ensures { IfOk result
         (λ v. (log : Log) × T.writes value.now (Some []) log × IsBlockOfLog log v.items) }
@@ -46,7 +46,7 @@ pub fn from_slice<'de, T: Deserialize<'de>>(
     }
 }
 
-/// As `from_slice`, of a type that borrows nothing.
+/// Does what `from_slice` does, for a type that borrows nothing.
 pub fn from_slice_owned<T: DeserializeOwned>(
     alloc: Global,
     bytes: &[u8],
@@ -58,8 +58,8 @@ pub fn from_slice_owned<T: DeserializeOwned>(
     fit(alloc, bytes)
 }
 
-/// As `from_slice_owned`, of a value that holds all that the block says: it is written as these
-/// bytes again.
+/// Does what `from_slice_owned` does, for a value that holds all that the block says. Such a value
+/// is written as the same bytes again.
 pub fn from_slice_lossless<T: Serialize + DeserializeOwned>(
     alloc: Global,
     bytes: &[u8],
@@ -86,7 +86,7 @@ pub fn from_slice_lossless<T: Serialize + DeserializeOwned>(
     Ok(value)
 }
 
-/// Why a value that was read is not written again.
+/// Returns why a value that was read is not written again.
 fn unwritten(error: WriteError) -> Misfit {
     match error {
         WriteError::OutOfMemory => Misfit::OutOfMemory,
@@ -94,7 +94,7 @@ fn unwritten(error: WriteError) -> Misfit {
     }
 }
 
-/// The place of the first byte that the others have not.
+/// Returns the index of the first byte that differs, or the length if none does.
 fn first_difference(bytes: &[u8], others: &[u8]) -> usize
     ensures { result ≤ length bytes.now }
 {
@@ -120,7 +120,7 @@ pub(crate) fn fit<T: DeserializeOwned, E>(alloc: Global, bytes: &[u8]) -> Result
     }
 }
 
-/// Refuses bytes that are no block.
+/// Rejects bytes that are not a block.
 fn judge(bytes: &[u8]) -> Result<(), Error<Infallible>>
     ensures block { OnOk result ((t : Tree) × IsBlock bytes.now t) }
     ensures refused { IfErr result (λ e. IsRefused e bytes.now) }

@@ -1,4 +1,4 @@
-//! DAG-CBOR as a `Serializer` of serde's, which keeps the events for proofs.
+//! DAG-CBOR as a `Serializer` of serde, which keeps the events for proofs.
 
 ghost use Rattle.std.specs.Prelude.{◌≡◌, [], Some, IfOk, false};
 ghost use Rattle.ipld_tree.specs.Tree.{Tree};
@@ -33,7 +33,7 @@ impl Writer {
         }
     }
 
-    /// The bytes, where one whole value was sent and no event refused.
+    /// Returns the bytes, if one whole value was sent and no event was refused.
     #[tactic(auto, using(crate::proofs::Logs::known_log))]
     pub(crate) fn into_bytes(self) -> Result<Vec<u8>, WriteError>
         ensures { IfOk result (λ v. IsGoodLog self.log.events v.items) }
@@ -46,7 +46,7 @@ impl Writer {
     }
 }
 
-/// Sends an event to the sink and notes it. After one that is refused, none is taken.
+/// Sends an event to the sink and notes it. After a refusal it takes no more events.
 macro_rules! send {
     ($writer:ident, $sent:expr, $note:expr) => {{
         if $writer.failed {

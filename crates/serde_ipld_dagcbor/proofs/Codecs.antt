@@ -25,7 +25,7 @@ module _ {V : Type 0} (shape : Shape Tree V) where
       → IsReadExcuse e ⊎ IfSome left (λ b. (v : V) → ¬ AreRead IsSpelling (IsReadAs shape) b v)
   not_decoded left e r = elim r [ inl k ↦ inl k | inr k ↦ inr (unread left k) ]
 
-  -- a slice is refused for want of memory, or holds no value
+  -- a slice is refused because memory ran out, or because it holds no value
   pub slice_not_decoded : {E F : Type 0} (b : List ℕ) (e : DecodeError E) (f : DecodeError F) → AreAlike e f → (e ≡ OutOfMemory) ⊎ HoldsNoValue shape default_steps b → OfWhole e
       → ((f ≡ OutOfMemory) ⊎ HoldsNoValue shape default_steps b) × OfSlice f
   slice_not_decoded b (Read x) f h r w = absurd h
@@ -34,18 +34,18 @@ module _ {V : Type 0} (shape : Shape Tree V) where
   slice_not_decoded b Failed f h r w = absurd w
   slice_not_decoded b _ f h r w = (inr (elim r [ inl k ↦ absurd (cc k) | inr k ↦ k ]), subst OfSlice (sym h) tt)
 
-  -- which is an excuse, or the slice is read as no value
+  -- such a refusal is an excuse, or the slice is not read as a value
   pub slice_excused : {F : Type 0} (b : List ℕ) (f : DecodeError F) → (f ≡ OutOfMemory) ⊎ HoldsNoValue shape default_steps b → IsReadExcuse f ⊎ ((v : V) → ¬ AreRead IsSpelling (IsReadAs shape) b v)
   slice_excused b f r = elim r [ inl k ↦ inl (subst IsReadExcuse (sym k) tt) | inr k ↦ inr (unread (Some b) k) ]
 
-  -- where a value stands first and bytes follow, the same refusal is for what follows
+  -- if a value is first and bytes come after it, a refusal of the same content is for these bytes
   pub alike_for_behind : {E F : Type 0} (b : List ℕ) (e : DecodeError E) (f : DecodeError F) → AreAlike e f → IsForBehind shape default_steps b e → IsForBehind shape default_steps b f
   alike_for_behind b (Read x) f h k = absurd h
   alike_for_behind b OutOfMemory f h k = λ v rest first. inl (subst IsReadExcuse (sym h) tt)
   alike_for_behind b TrailingData f h k = λ v rest first. inr h
   alike_for_behind b _ f h k = λ v rest first. elim (k v rest first) [ inl i ↦ absurd i | inr i ↦ absurd (cc i) ]
 
--- a refusal that is alike lacks memory only where the first may
+-- a refusal of the same content is out of memory only if the first may be
 pub alike_in_memory : {E F : Type 0} (may : Bool) (e : DecodeError E) (f : DecodeError F) → AreAlike e f → LacksMemoryIf may e → LacksMemoryIf may f
 alike_in_memory may (Read x) f h k = absurd h
 alike_in_memory may _ f h k = subst (LacksMemoryIf may) (sym h) k

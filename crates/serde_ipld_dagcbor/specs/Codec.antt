@@ -1,4 +1,4 @@
--- What DAG-CBOR is as a codec: bytes are tied to trees by their spelling.
+-- DAG-CBOR as a codec: bytes belong to the tree whose spelling they are.
 use Rattle.std.proofs.Common.{sym, ◌∙◌, ap}
 use Rattle.std.specs.Prelude.{◌≡◌, ◌⊎◌, ℕ, ◌≤◌, List, [], Option, Some, IfSome, IfErr, Result, Ok, Err, MatchResult, Bool, false, ⊤, Vec}
 use Rattle.std.specs.declared.convert.Infallible.{Infallible}
@@ -26,27 +26,27 @@ use Rattle.serde_ipld_dagcbor.specs.declared.error.CodecError.TheVariants.{Decod
 use Rattle.dagcbor_items.specs.Shapes.{Shape}
 use Rattle.dagcbor_core.specs.Steps.{default_steps}
 
--- the tree shows v to the type, within 256 steps
+-- the tree has the view v, within 256 steps
 abbrev pub IsReadAs : {V : Type 0} → Shape Tree V → Tree → V → Type 0
 IsReadAs shape t v = (shape.view t ≡ Some v) × (shape.need t ≤ default_steps)
 
 -- ---- excuses
 
--- the error says nothing of the value or of the bytes
+-- the error says nothing about the value or the bytes
 abbrev pub IsExcuse : CodecError → Type 0
 IsExcuse (Decode e) = IsReadExcuse e
 IsExcuse (Encode e) = IsWriteExcuse e
 IsExcuse (DecodeIo e) = IsReadExcuse e
 IsExcuse (EncodeIo e) = IsWriteExcuse e
 
--- ---- which error comes from which call, and what it says
+-- ---- which call returns which error, and what it says
 
--- the error is a `DecodeIo`, and this holds of why
+-- the error is a `DecodeIo`, and this holds of its cause
 abbrev pub IsDecodeIo : (DecodeError Error → Type 0) → CodecError → Type 0
 IsDecodeIo holds (DecodeIo e) = holds e
 IsDecodeIo holds _ = ⊥
 
--- why a source's bytes, where they are known, are not read
+-- why the bytes of a source are not read, if they are known
 abbrev pub NotDecoded : {V : Type 0} → Shape Tree V → Option (List ℕ) → CodecError → Type 0
 NotDecoded shape left (DecodeIo e) = (IsReadExcuse e ⊎ IfSome left (HoldsNoValue shape default_steps))
     × OfWhole e
@@ -57,7 +57,7 @@ abbrev pub DecodeRefused : {T V : Type 0} → Shape Tree V → Option (List ℕ)
     → Type 0
 DecodeRefused shape left result = IfErr result (NotDecoded shape left)
 
--- the two refusals are of one variant and say the same, and neither is a fault of the source
+-- both refusals have the same variant and content, and neither is a fault of the source
 abbrev pub AreAlike : {E F : Type 0} → DecodeError E → DecodeError F → Type 0
 AreAlike (unread.Msg name) f = f ≡ unread.Msg name
 AreAlike (unread.Read e) f = ⊥
@@ -79,12 +79,12 @@ AreAlike unread.UnorderedKey f = f ≡ unread.UnorderedKey
 AreAlike unread.OutOfMemory f = f ≡ unread.OutOfMemory
 AreAlike unread.Failed f = f ≡ unread.Failed
 
--- which refusals of a slice are answered: it has no source, which might fault
+-- which variants the refusal of a slice may have: a slice has no source that might fault
 abbrev pub OfSlice : {E : Type 0} → DecodeError E → Type 0
 OfSlice (unread.Read e) = ⊥
 OfSlice e = OfWhole e
 
--- why a slice's bytes are not read: for want of memory, or they hold no value
+-- why the bytes of a slice are not read: memory ran out, or they do not hold a value
 abbrev pub NotDecodedFromSlice : {V : Type 0} → Shape Tree V → List ℕ → CodecError → Type 0
 NotDecodedFromSlice shape b (DecodeIo e) = ((e ≡ unread.OutOfMemory) ⊎ HoldsNoValue shape default_steps b)
     × OfSlice e
@@ -95,7 +95,7 @@ abbrev pub DecodeFromSliceRefused : {T V : Type 0} → Shape Tree V → List ℕ
     → Type 0
 DecodeFromSliceRefused shape b result = IfErr result (NotDecodedFromSlice shape b)
 
--- what the type's own read of a source answers is handed on
+-- what the type's own read of a source promises is passed on
 abbrev pub HandsDecodedOn : {T : Type 0}
     → (DeState → Result T (DecodeError Error) → DeState → Type 0) → Option (List ℕ)
     → Result T CodecError → Type 0
@@ -103,7 +103,7 @@ HandsDecodedOn answers left result = MatchResult result
     (λ v. HandsWholeOn answers left default_steps false (Ok v))
     (IsDecodeIo (λ e. HandsWholeOn answers left default_steps false (Err e)))
 
--- so is what its read of a slice answers, where a refusal says the same
+-- what its read of a slice promises is passed on, with a refusal of the same content
 abbrev pub HandsSliceDecodedOn : {T : Type 0}
     → (DeState → Result T (DecodeError Infallible) → DeState → Type 0) → List ℕ
     → Result T CodecError → Type 0
@@ -112,7 +112,7 @@ HandsSliceDecodedOn answers b result = MatchResult result
     (IsDecodeIo (λ e. (told : DecodeError Infallible) × AreAlike told e
     × HandsWholeOn answers (Some b) default_steps false (Err told)))
 
--- why a value is not sent to a device, and what went out
+-- why a value is not sent to a device, and what was sent before
 abbrev pub NotEncoded : Option Tree → Option (List ℕ) → Option (List ℕ) → CodecError → Type 0
 NotEncoded tree old new (EncodeIo e) = (IsWriteExcuse e ⊎ HasNoSpelling tree)
     × GrewByFront tree old new
@@ -123,7 +123,7 @@ abbrev pub EncodeRefused : Option Tree → Option (List ℕ) → Result (Unit {0
     → Option (List ℕ) → Type 0
 EncodeRefused tree old result new = IfErr result (NotEncoded tree old new)
 
--- want of memory comes only where writing the value may take some
+-- it runs out of memory only if writing the value may take memory
 abbrev pub EncodeLacksMemoryIf : Bool → CodecError → Type 0
 EncodeLacksMemoryIf may (EncodeIo e) = WantsMemoryOnlyIf {T = Unit {0}} may (Err e)
 EncodeLacksMemoryIf may _ = ⊤
@@ -143,7 +143,7 @@ NotEncodedAsVec tree _ = ⊥
 abbrev pub EncodeToVecRefused : Option Tree → Result (Vec ℕ Global) CodecError → Type 0
 EncodeToVecRefused tree result = IfErr result (NotEncodedAsVec tree)
 
--- why no links are found
+-- why links are not found
 abbrev pub NoLinks : List ℕ → CodecError → Type 0
 NoLinks b (Decode e) = AnswersLinks (decode_first b) (Err e)
 NoLinks b _ = ⊥
@@ -158,10 +158,10 @@ LinksNotFound b result = IfErr result (NoLinks b)
 pub spellings_are_unique : EncodingsAreUnique IsSpelling
 spellings_are_unique b t u h k = (front_unique b [] [] t u (whole_front h) (whole_front k)).0
 
--- A tree has one spelling at most.
+-- A tree has at most one spelling.
 pub trees_have_one_spelling : DataHasOneEncoding IsSpelling
 trees_have_one_spelling b c t h k = h.is ∙ sym k.is
 
--- Bytes begin with one list of links at most.
+-- Bytes begin with at most one list of links.
 pub bytes_have_one_list : BytesHaveOneList AreFirstLinks
 bytes_have_one_list b links others h k = h.4 ∙ ap links_of (front_unique b h.1 k.1 h.0 k.0 h.2 k.2).0 ∙ sym k.4

@@ -1,4 +1,4 @@
--- handed on from the crates below
+-- re-exported from the crates below
 pub use Rattle.dagcbor_heads.specs.Reading
 pub use Rattle.dagcbor_heads.specs.Inputs
 pub use Rattle.dagcbor_heads.specs.IoReading
@@ -53,7 +53,7 @@ pub use Rattle.dagcbor_read.specs.Enums
 pub use Rattle.dagcbor_read.specs.EnumViews
 pub use Rattle.dagcbor_read.specs.Whole
 pub use Rattle.dagcbor_read.specs.Streams
--- of this crate
+-- this crate's own
 pub mod RoundTrips
 pub mod Codec
 pub mod ByHand

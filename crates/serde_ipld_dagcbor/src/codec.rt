@@ -27,7 +27,7 @@ use std::convert::Infallible;
 use std::io;
 use std::io::{BufRead, Write};
 
-/// The refusal of a slice, as one of a source.
+/// Turns the refusal of a slice into that of a source.
 fn of_no_device(error: DecodeError<Infallible>) -> DecodeError<io::Error>
     ensures { AreAlike error result }
 {
@@ -64,7 +64,7 @@ fn of_no_device(error: DecodeError<Infallible>) -> DecodeError<io::Error>
     }
 }
 
-/// DAG-CBOR, as `Codec` and `Links` speak of formats.
+/// The format DAG-CBOR, for the traits `Codec` and `Links`.
 #[derive(Clone, Copy, Debug, PartialEq, Eq)]
 pub struct DagCborCodec;
 

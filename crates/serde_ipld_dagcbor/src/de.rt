@@ -1,4 +1,4 @@
-//! Reading.
+//! Reading values.
 
 pub use dagcbor_core::DEFAULT_STEPS;
 pub use dagcbor_decode::{Kind, check_slice, links_from_slice};

@@ -5,7 +5,7 @@ use std::convert::Infallible;
 use std::io;
 use thiserror::Error;
 
-/// Why the codec refused.
+/// Why a call of the codec was refused.
 #[derive(Debug, Drop, Error)]
 pub enum CodecError {
     /// From `links`.

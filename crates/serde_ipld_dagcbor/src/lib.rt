@@ -1,7 +1,8 @@
-//! DAG-CBOR, read and written with proofs: the names of the crate `serde_ipld_dagcbor`.
+//! DAG-CBOR, read and written with proofs, under the names of the crate `serde_ipld_dagcbor`.
 //!
-//! docs/TYPES.md lists the calls. This is a test, in `crates/tests_uses/src/tests/recipes.rt`.
-//! `agree` and `is_told` belong to the tests, and fail if the answer differs:
+//! docs/TYPES.md lists the calls. This example is a test in
+//! `crates/tests_uses/src/tests/recipes.rt`. `agree` and `is_told` belong to the tests, and fail if
+//! the result differs:
 //!
 //! ```rust
 //! let block = to_vec(alloc, &(-300i16, "a"))?;
@@ -42,5 +43,5 @@ pub use dagcbor_write::{
 };
 pub use ipld_tree::{ByteSlice, Bytes, Cid, CidError, CidIter, Codec, Ipld, Links};
 
-/// The code of DAG-CBOR among the codes of formats (the multicodec table).
+/// The code of DAG-CBOR in the multicodec table.
 pub const DAG_CBOR_CODE: u64 = 0x71;

@@ -1,4 +1,4 @@
-//! Writing.
+//! Writing values.
 
 pub use dagcbor_heads::{BufWriter, IoRefWriter, IoWriter, Tally, Write, WriteResult, push_head};
 pub use dagcbor_write::{

@@ -1,11 +1,11 @@
-//! Spellings that are met in the field, those of the least and of the greatest length, and texts that
-//! are refused. The binary forms are another program's.
+//! Common spellings, the shortest and the longest ones, and texts that are rejected. The binary
+//! forms come from another program.
 
 use cid_text::{CidTextError, cid_from_text, cid_text};
 use ipld_tree::{Cid, CidError};
 use std::test::Fail;
 
-/// A text, the binary form of its CID, and how that is written.
+/// A text, the binary form of its CID, and the text that is written for the CID.
 const ROWS: &[(&[u8], &[u8], &[u8])] = &[
     (
         b"QmUNLLsPACCz1vLxQVkXqqLX5R1X345qqfHbsf67hvA3Nn",

@@ -1,1 +1,1 @@
--- Nothing is cited.
+-- There are no specs.

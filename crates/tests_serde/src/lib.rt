@@ -1,5 +1,6 @@
-//! Types as a user of `dagcbor_serde` writes them, and tests: what each is written as, what is read
-//! of it, and what is refused. The types stand beside the tests, so that they are proved once.
+//! Types as a user of `dagcbor_serde` writes them, and tests: the bytes that each is written as,
+//! the values that are read from bytes, and the bytes that are rejected. The types are in a module
+//! beside the tests, so that they are proved once.
 #![tactic(auto)]
 
 #[cfg(test)]

@@ -1,5 +1,5 @@
-//! What derived types are written as, and what is read of them. The expected bytes were made by an
-//! encoder apart.
+//! The bytes that derived types are written as, and the values that are read from bytes. The
+//! expected bytes were made by a separate encoder.
 
 mod data;
 mod devices;
@@ -15,11 +15,11 @@ use std::alloc::Global;
 use std::test::Fail;
 use tests_shared::{agree, is_told};
 
-/// The CID of a raw block with an empty digest by the identity.
+/// The CID of a raw block with an empty identity digest.
 const CID: &[u8] = b"\x01\x55\x00\x00";
 
-/// The bytes are read as a value that is written as they. Of the types of std, of `Link`, `Any` and
-/// `ByteBuf` it is proved what they are written as: so that is the value.
+/// Checks that the bytes are read as a value that is written as the same bytes. For the types of
+/// std, `Link`, `Any` and `ByteBuf`, the bytes of a value are proved, so this determines the value.
 fn is_written_again<T: Serialize + DeserializeOwned>(
     alloc: Global,
     bytes: &[u8],
@@ -28,7 +28,7 @@ fn is_written_again<T: Serialize + DeserializeOwned>(
     agree(to_vec(alloc, &read)?.as_slice(), bytes)
 }
 
-/// The bytes are read as a value that is written as this one.
+/// Checks that the bytes are read as a value that is written as `value` is.
 fn is_read<T: Serialize + DeserializeOwned>(
     alloc: Global,
     bytes: &[u8],
@@ -41,7 +41,7 @@ fn is_read<T: Serialize + DeserializeOwned>(
     )
 }
 
-/// The value is written as these bytes, and they are read as it.
+/// Checks that the value is written as these bytes, and that they are read as it.
 fn goes_both_ways<T: Serialize + DeserializeOwned>(
     alloc: Global,
     value: &T,
@@ -51,7 +51,7 @@ fn goes_both_ways<T: Serialize + DeserializeOwned>(
     is_written_again::<T>(alloc, bytes)
 }
 
-/// The type accepts no such bytes, and this is the refusal.
+/// Checks that the type does not accept the bytes, with this error.
 fn is_refused<T: DeserializeOwned>(alloc: Global, bytes: &[u8], told: &str) -> Result<(), Fail> {
     let refusal = from_slice_owned::<T>(alloc, bytes).err();
     let wanted = format!(in alloc; "Some({told})")?;

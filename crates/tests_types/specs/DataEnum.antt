@@ -1,4 +1,4 @@
--- What a tree shows to an enum whose variants hold a value, two values, and fields.
+-- The view of an enum whose variants hold a value, two values, and fields.
 use Rattle.std.specs.Prelude.{ℕ, ◌^◌, Bool, List, Option, None, option_map, if◌then◌else◌, codes, false, bytes_eq}
 use Rattle.serde_ipld_dagcbor.specs.Tree.{Tree}
 use Rattle.serde_ipld_dagcbor.specs.Shapes.{view_unsigned, view_bool, view_text, Shape, leaf, owned_leaf, takes_some}
@@ -6,7 +6,7 @@ use Rattle.serde_ipld_dagcbor.specs.Collections.{list_of, no_more, first_then}
 use Rattle.serde_ipld_dagcbor.specs.Structs.{required_field, no_fields, struct_shape}
 use Rattle.serde_ipld_dagcbor.specs.EnumViews.{EnumShape, enum_of}
 
--- what the enum is read as
+-- the view's type
 pub data DataView : Type 0 where
   is_a : ℕ → DataView
   is_b : Bool → ℕ → DataView
@@ -25,7 +25,7 @@ b_shape = list_of (first_then (leaf view_bool) (first_then (leaf (view_unsigned 
 abbrev pub unit_data : List ℕ → Option DataView
 unit_data name = None
 
--- what the tree after a variant's name makes
+-- the view of the tree at a variant's name
 abbrev pub part_data : List ℕ → Tree → Option DataView
 part_data name t =
     if bytes_eq name (codes "A") then option_map is_a (view_unsigned (2 ^ 32) t)
@@ -40,10 +40,10 @@ need_part_data name t =
     else if bytes_eq name (codes "C") then c_shape.need t
     else 0
 
--- the variants of the enum
+-- the views of the variants
 abbrev pub data_variants : EnumShape DataView
 data_variants = record { unit = unit_data; part = part_data; need = need_part_data; wants_loan = false; memory = takes_some }
 
--- what the enum reads
+-- the shape of the enum
 abbrev pub data_shape : Shape Tree DataView
 data_shape = enum_of data_variants

@@ -1,4 +1,4 @@
--- What a tree shows to the types that the tests write by hand, and what a caller of a codec promises.
+-- The views of the types that the tests write by hand, and what a caller of a codec promises.
 pub mod Letter
 pub mod NamedLink
 pub mod DataEnum

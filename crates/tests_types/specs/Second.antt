@@ -1,11 +1,11 @@
--- What a tree shows to an enum whose one variant holds three fields.
+-- The view of an enum whose one variant holds three fields.
 use Rattle.std.specs.Prelude.{ℕ, ◌^◌, List, Option, None, if◌then◌else◌, codes, false, bytes_eq}
 use Rattle.serde_ipld_dagcbor.specs.Tree.{Tree}
 use Rattle.serde_ipld_dagcbor.specs.Shapes.{view_unsigned, leaf, Shape}
 use Rattle.serde_ipld_dagcbor.specs.Structs.{required_field, no_fields, struct_shape}
 use Rattle.serde_ipld_dagcbor.specs.EnumViews.{EnumShape, enum_of}
 
--- what the enum is read as
+-- the view's type
 abbrev pub SecondView : Type 0
 SecondView = ℕ × (ℕ × (ℕ × Unit {0}))
 
@@ -19,7 +19,7 @@ fields_shape = struct_shape (required_field (codes "b") (leaf (view_unsigned (2 
 abbrev pub unit_second : List ℕ → Option SecondView
 unit_second name = None
 
--- what the tree after a variant's name makes
+-- the view of the tree at a variant's name
 abbrev pub part_second : List ℕ → Tree → Option SecondView
 part_second name t = if bytes_eq name (codes "Data") then fields_shape.view t else None
 
@@ -27,10 +27,10 @@ part_second name t = if bytes_eq name (codes "Data") then fields_shape.view t el
 abbrev pub need_part_second : List ℕ → Tree → ℕ
 need_part_second name t = fields_shape.need t
 
--- the variants of the enum
+-- the views of the variants
 abbrev pub second_variants : EnumShape SecondView
 second_variants = record { unit = unit_second; part = part_second; need = need_part_second; wants_loan = false; memory = fields_shape.memory }
 
--- what the enum reads
+-- the shape of the enum
 abbrev pub second_shape : Shape Tree SecondView
 second_shape = enum_of second_variants

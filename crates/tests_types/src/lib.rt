@@ -1,5 +1,5 @@
-//! Tests of `serde_ipld_dagcbor`: tables of bytes and answers, public calls, and types by hand. What
-//! is written alone is tested in `tests_writes`.
+//! Tests of `serde_ipld_dagcbor`: tables of bytes and results, public calls, and types by hand.
+//! What is only written is tested in `tests_writes`.
 #![tactic(auto)]
 
 #[cfg(test)]

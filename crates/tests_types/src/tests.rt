@@ -1,4 +1,4 @@
-//! Tables of bytes and answers, public calls, and types by hand.
+//! Tables of bytes and results, public calls, and types by hand.
 
 mod accessors;
 mod by_hand;

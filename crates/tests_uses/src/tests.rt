@@ -1,4 +1,4 @@
-//! Each type both ways, and the recipes.
+//! Each type written and read, and the recipes.
 
 mod album;
 mod note;

@@ -1,4 +1,4 @@
--- What a tree shows to an album, to its tracks and to its format.
+-- The views of an album, of its tracks and of its format.
 use Rattle.std.specs.Prelude.{ℕ, ◌^◌, List, Option, Some, None, if◌then◌else◌, codes, false, bytes_eq}
 use Rattle.serde_ipld_dagcbor.specs.Tree.{Tree}
 use Rattle.serde_ipld_dagcbor.specs.Shapes.{view_text, view_unsigned, leaf, owned_leaf, Shape, takes_none}
@@ -8,7 +8,7 @@ use Rattle.serde_ipld_dagcbor.specs.EnumViews.{EnumShape, enum_of}
 use Rattle.uses.specs.declared.album.Format.{Format}
 use Rattle.uses.specs.declared.album.Format.TheVariants.{Vinyl, Tape, Disc}
 
--- a format, by its name alone
+-- a format that is its name alone
 abbrev pub unit_format : List ℕ → Option Format
 unit_format name =
     if bytes_eq name (codes "Vinyl") then Some Vinyl
@@ -29,7 +29,7 @@ format_variants = record {
 abbrev pub format_shape : Shape Tree Format
 format_shape = enum_of format_variants
 
--- the note, where there is one, the title, and the seconds
+-- the note, if there is one, the title, and the seconds
 abbrev pub TrackView : Type 0
 TrackView = Option (List ℕ) × (List ℕ × (ℕ × Unit {0}))
 
@@ -38,7 +38,7 @@ track_shape = struct_shape (optional_field (codes "note") (owned_leaf view_text)
     (required_field (codes "title") (owned_leaf view_text)
     (required_field (codes "seconds") (leaf (view_unsigned (2 ^ 32))) no_fields)))
 
--- the year, where it is known, the title, the format, and the tracks
+-- the year, if it is known, the title, the format, and the tracks
 abbrev pub AlbumView : Type 0
 AlbumView = Option ℕ × (List ℕ × (Format × (List TrackView × Unit {0})))
 

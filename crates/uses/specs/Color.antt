@@ -1,4 +1,4 @@
--- What a tree shows to an enum with unit variants and variants that hold one or two numbers.
+-- The view of an enum with unit variants and variants that hold one or two numbers.
 use Rattle.std.specs.Prelude.{ℕ, ◌^◌, List, Option, Some, None, option_map, if◌then◌else◌, codes, false, bytes_eq}
 use Rattle.serde_ipld_dagcbor.specs.Tree.{Tree}
 use Rattle.serde_ipld_dagcbor.specs.Shapes.{view_unsigned, Shape, leaf, takes_none}

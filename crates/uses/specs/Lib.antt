@@ -1,4 +1,4 @@
--- What a tree shows to each type.
+-- The view of each type.
 pub mod Note
 pub mod Person
 pub mod OptionalPerson

@@ -1,4 +1,4 @@
--- What a tree shows to a struct of texts and a number.
+-- The view of a struct of texts and a number.
 use Rattle.std.specs.Prelude.{ℕ, ◌^◌, List, codes}
 use Rattle.serde_ipld_dagcbor.specs.Tree.{Tree}
 use Rattle.serde_ipld_dagcbor.specs.Shapes.{view_text, view_unsigned, leaf, owned_leaf, Shape}

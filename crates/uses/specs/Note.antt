@@ -1,4 +1,4 @@
--- What a tree shows to a note.
+-- The view of a note.
 use Rattle.std.specs.Prelude.{ℕ, ◌^◌, List, codes}
 use Rattle.serde_ipld_dagcbor.specs.Tree.{Tree}
 use Rattle.serde_ipld_dagcbor.specs.Shapes.{view_text, view_unsigned, leaf, owned_leaf, Shape}

@@ -1,10 +1,10 @@
--- What a tree shows to a struct with two fields that may be absent.
+-- The view of a struct with two fields that may be absent.
 use Rattle.std.specs.Prelude.{ℕ, ◌^◌, List, Option, codes}
 use Rattle.serde_ipld_dagcbor.specs.Tree.{Tree}
 use Rattle.serde_ipld_dagcbor.specs.Shapes.{view_text, view_unsigned, leaf, owned_leaf, Shape}
 use Rattle.serde_ipld_dagcbor.specs.Structs.{required_field, optional_field, no_fields, struct_shape}
 
--- the name, and the year of birth and the profession, where there are
+-- the name, and the year of birth and the profession, if they are there
 abbrev pub OptionalPersonView : Type 0
 OptionalPersonView = List ℕ × (Option ℕ × (Option (List ℕ) × Unit {0}))
 

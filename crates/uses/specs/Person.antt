@@ -1,10 +1,10 @@
--- What a tree shows to a struct with a field that may be absent.
+-- The view of a struct with a field that may be absent.
 use Rattle.std.specs.Prelude.{ℕ, ◌^◌, List, Option, codes}
 use Rattle.serde_ipld_dagcbor.specs.Tree.{Tree}
 use Rattle.serde_ipld_dagcbor.specs.Shapes.{view_text, view_unsigned, leaf, owned_leaf, Shape}
 use Rattle.serde_ipld_dagcbor.specs.Structs.{required_field, optional_field, no_fields, struct_shape}
 
--- the name, the year of birth, and the profession, where there is one
+-- the name, the year of birth, and the profession, if there is one
 abbrev pub PersonView : Type 0
 PersonView = List ℕ × (ℕ × (Option (List ℕ) × Unit {0}))
 

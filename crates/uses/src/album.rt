@@ -1,4 +1,4 @@
-//! A struct that holds a list of structs and an enum, with a field that is left out where it is
+//! A struct that holds a list of structs and an enum, with a field that is left out if it is
 //! `None`.
 
 ghost use Rattle.std.specs.Prelude.{Some, [], ◌∷◌, codes, pos, string_bytes, false, true};
@@ -16,7 +16,7 @@ use serde_ipld_dagcbor::{
 };
 use std::alloc::Global;
 
-/// What an album came out on.
+/// The medium of an album.
 #[derive(Clone, Copy, Debug, PartialEq, Eq)]
 pub enum Format {
     Vinyl,
@@ -24,7 +24,7 @@ pub enum Format {
     Disc,
 }
 
-/// A piece of an album.
+/// One track of an album.
 #[derive(Debug, Drop)]
 pub struct Track {
     pub note: Option<String>,

@@ -1,5 +1,5 @@
-//! Uses of `serde_ipld_dagcbor`, as a caller writes them: types of one's own, and a caller that is
-//! proved. Their tests stand in `tests_uses`.
+//! Uses of `serde_ipld_dagcbor`, as a caller writes them: types of the caller's own, and a caller
+//! that is proved. Their tests are in `tests_uses`.
 //!
 //! | Use | File |
 //! |---|---|

@@ -1,4 +1,4 @@
-//! A struct that goes to devices and comes from them.
+//! A struct that is written to devices and read from them.
 
 ghost use Rattle.std.specs.Prelude.{Some, [], ◌∷◌, codes, pos, string_bytes, refl, true};
 ghost use Rattle.serde_ipld_dagcbor.specs.Tree.{text, integer, entries_tree};

@@ -1,4 +1,4 @@
-//! The struct of the first example by hand, of docs/TYPES.md, word for word.
+//! The struct of the first example by hand in docs/TYPES.md, word for word.
 
 ghost use Rattle.std.specs.Prelude.{Some, [], ◌∷◌, codes, pos, string_bytes, true};
 ghost use Rattle.serde_ipld_dagcbor.specs.Tree.{text, integer, entries_tree};

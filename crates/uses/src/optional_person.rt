@@ -1,4 +1,4 @@
-//! A struct with a field that is left out where it is missing.
+//! A struct with a field that is left out if it is `None`.
 
 ghost use Rattle.std.specs.Prelude.{Some, [], ◌∷◌, codes, pos, string_bytes, option_map, true};
 ghost use Rattle.serde_ipld_dagcbor.specs.Tree.{text, integer, entries_tree};
@@ -12,7 +12,7 @@ use serde_ipld_dagcbor::{
 };
 use std::alloc::Global;
 
-/// A person whose year of birth is left out where it is not known.
+/// A person, without the year of birth if it is not known.
 #[derive(Debug, Drop)]
 pub struct OptionalPerson {
     pub name: String,

@@ -1,4 +1,4 @@
-//! The items of a list, or the entries of a map, one at a time.
+//! Reading the items of a list, or the entries of a map, one at a time.
 
 ghost use Rattle.std.specs.Prelude.{◌≡◌, ◌↔◌, ◌+◌, ◌<◌, ◌≤◌, true, false, Some, IfOk, IfErr};
 ghost use Rattle.std.specs.Prelude.{IfSome, MatchBool, length};
@@ -20,9 +20,9 @@ use dagcbor_items::take_name;
 use std::alloc::{AllocError, Global};
 use std::borrow::CowStr;
 
-/// A list or map that was begun, and what is left of it. It holds no `Deserializer`: pass each call
-/// the one on which it was begun. If it is dropped before its end, the rest stays unread, and its
-/// steps stay spent.
+/// A list or map that was begun, and how much of it is left. It holds no `Deserializer`: pass each
+/// call the one on which it was begun. If it is dropped before its end, the rest stays unread, and
+/// its steps stay spent.
 #[derive(Drop)]
 pub struct Accessor<'de> {
     name: Name,
@@ -35,7 +35,7 @@ pub struct Accessor<'de> {
     ghost within: { left ≤ announced },
 }
 
-/// A copy of the key. It takes memory only for some bytes that are not lent.
+/// Returns a copy of the key. It takes memory only if the key is not lent and not empty.
 pub(crate) fn copied<'de>(alloc: Global, key: &CowStr<'de>) -> Result<CowStr<'de>, AllocError>
     ensures same { IfOk result (λ c. cow_str_bytes c ≡ cow_str_bytes key.now) }
     ensures lent { IfErr result (λ _. ¬ IsBorrowedStr key.now) }
@@ -48,7 +48,7 @@ pub(crate) fn copied<'de>(alloc: Global, key: &CowStr<'de>) -> Result<CowStr<'de
     })
 }
 
-/// Gives so many steps back.
+/// Gives `steps` steps back.
 pub(crate) fn give_back<R: Read>(reader: &mut R, steps: usize)
     requires { 0 < steps → (R.reading reader.old).steps + steps ≤ (R.reading reader.old).budget }
     ensures { R.reading reader.new ≡ with_steps ((R.reading reader.old).steps + steps)
@@ -67,7 +67,7 @@ impl<'de> Accessor<'de> {
     ghost use Rattle.dagcbor_read.specs.Accessors.{after_value, with_value, EndsItems};
     ghost use Rattle.dagcbor_read.specs.Named.{TakesName};
 
-    /// Nothing of it is read so far.
+    /// Makes an accessor of which nothing was read.
     #[inline(always)]
     pub(crate) fn new(name: Name, is_map: bool, announced: usize, steps: usize) -> Accessor<'de>
         ensures { accessor_state result ≡ fresh name is_map announced steps }
@@ -83,28 +83,28 @@ impl<'de> Accessor<'de> {
         }
     }
 
-    /// Whether it is a map, whose keys and values are read in turn, and not a list.
+    /// Returns whether it is a map, whose keys and values are read in turn, and not a list.
     pub fn is_map(&self) -> bool
         ensures { result ≡ (accessor_state self.now).is_map }
     {
         self.is_map
     }
 
-    /// Whether the value of the last key is to be read now.
+    /// Returns whether the value of the last key is to be read now.
     pub fn owes_value(&self) -> bool
         ensures { result ≡ (accessor_state self.now).owes_value }
     {
         self.owes_value
     }
 
-    /// How many items are left. A pair counts as read once its key is.
+    /// Returns how many items are left. A pair counts as read once its key is.
     pub fn size_hint(&self) -> Option<usize>
         ensures { result ≡ Some (accessor_state self.now).left }
     {
         Some(self.left)
     }
 
-    /// The next item of a list, if one is left.
+    /// Reads the next item of a list, or returns `None` if none is left.
     #[inline(always)]
     pub fn next_element<T: Deserialize<'de>, R: Read>(
         &mut self,
@@ -129,7 +129,8 @@ impl<'de> Accessor<'de> {
         Ok(Some(element))
     }
 
-    /// The next key of a map, if one is left: lent if the input lends.
+    /// Reads the next key of a map, or returns `None` if none is left. The key is lent if the input
+    /// lends.
     pub fn next_key<R: Read>(
         &mut self,
         alloc: Global,
@@ -180,7 +181,7 @@ impl<'de> Accessor<'de> {
         }
     }
 
-    /// The key was read, and its value is to be read now.
+    /// Notes that the key was read, and that its value is to be read now.
     #[inline(always)]
     fn note_key(&mut self, key: CowStr<'de>)
         requires { 0 < (accessor_state self.old).left }
@@ -192,8 +193,8 @@ impl<'de> Accessor<'de> {
         self.owes_value = true;
     }
 
-    /// Reads the next key, and only keeps it: `last_key` then lends it. One of the names takes no
-    /// memory if it is at hand.
+    /// Reads the next key and keeps it, so that `last_key` lends it. One of the names takes no
+    /// memory if a slice has it whole.
     #[cold]
     #[inline(never)]
     pub(crate) fn keep_key<R: Read>(
@@ -215,7 +216,7 @@ impl<'de> Accessor<'de> {
         Ok(())
     }
 
-    /// The key that was read last.
+    /// Returns the key that was read last.
     pub(crate) fn last_key(&self) -> &str
         ensures { IfSome (accessor_state self.now).last (λ k. result.now ≡ k) }
     {
@@ -225,7 +226,7 @@ impl<'de> Accessor<'de> {
         }
     }
 
-    /// The value of the key before it.
+    /// Reads the value of the last key.
     pub fn next_value<T: Deserialize<'de>, R: Read>(
         &mut self,
         alloc: Global,
@@ -242,7 +243,7 @@ impl<'de> Accessor<'de> {
         Ok(value)
     }
 
-    /// The value of the last key was read in another way.
+    /// Notes that the value of the last key was read in another way.
     pub(crate) fn note_value(&mut self)
         ensures { accessor_state self.new ≡ with_value (accessor_state self.old) }
     {

@@ -28,8 +28,8 @@ pub struct EnumAccessor {
     steps: u8,
 }
 
-/// The form of the enum that begins here: the first byte of a text, which stays, or a1, which is
-/// taken.
+/// Reads the form of the enum that begins here. The first byte of a text stays, and the byte a1 of
+/// a map is taken.
 #[tactic(auto, using(dagcbor_items::proofs::PartRefusals::end_byte))]
 fn pull_form<R: Read>(reader: &mut R) -> ReadResult<EnumAccessor, R>
     ensures form { BeginsEnum (R.reading reader.old) result (R.reading reader.new) }
@@ -51,7 +51,7 @@ fn pull_form<R: Read>(reader: &mut R) -> ReadResult<EnumAccessor, R>
     })
 }
 
-/// The form of the enum that begins here, for a step.
+/// Reads the form of the enum that begins here, and spends a step.
 #[tactic(auto, using(crate::proofs::Entering::depth_form, crate::proofs::Entering::byte_form))]
 pub(crate) fn spend_form<R: Read>(name: &str, reader: &mut R) -> ReadResult<EnumAccessor, R>
     ensures form { SpendsEnum name.now (R.reading reader.old) result (R.reading reader.new) }
@@ -66,7 +66,7 @@ pub(crate) fn spend_form<R: Read>(name: &str, reader: &mut R) -> ReadResult<Enum
 }
 
 impl EnumAccessor {
-    /// Begins an enum, for no step. Takes no memory.
+    /// Begins an enum without spending a step. It takes no memory.
     pub fn enum_<'de, R: Read>(de: &mut Deserializer<'de, R>) -> ReadResult<EnumAccessor, R>
         ensures form { Over R.reading (Call BeginsEnum) de.old result de.new }
         ensures variant { IfErr result OfByte }
@@ -79,7 +79,7 @@ impl EnumAccessor {
         Ok(form)
     }
 
-    /// The variant's name: read as `deserialize_identifier` does.
+    /// Reads the variant's name, as `deserialize_identifier` does.
     pub fn variant<'de, R: Read>(
         self,
         alloc: Global,
@@ -97,8 +97,8 @@ impl EnumAccessor {
         Ok((name, self))
     }
 
-    /// After a variant's name alone, reads nothing. Else it is `Mismatch` with the enum's first
-    /// byte.
+    /// Ends a variant that is its name alone, and reads nothing. For a map it returns `Mismatch`
+    /// with the enum's first byte.
     pub fn unit_variant<'de, R: Read>(self, de: &mut Deserializer<'de, R>) -> ReadResult<(), R>
         requires { AreOut (enum_state self).steps (de_state R.reading de.old) }
         ensures { Over R.reading (Call (EndsUnit (enum_state self))) de.old result de.new }
@@ -112,7 +112,8 @@ impl EnumAccessor {
         Ok(())
     }
 
-    /// What the variant holds. After a name alone it is `Mismatch` with the enum's first byte.
+    /// Reads what the variant holds. For a name alone it returns `Mismatch` with the enum's first
+    /// byte.
     pub fn newtype_variant<'de, T: Deserialize<'de>, R: Read>(
         self,
         alloc: Global,
@@ -131,8 +132,8 @@ impl EnumAccessor {
         Ok(part)
     }
 
-    /// Begins the list that the variant holds. Its length is not looked at. Its end gives all steps
-    /// back. Takes no memory.
+    /// Begins the list that the variant holds. The length is not used. The end of the list gives
+    /// all steps back. It takes no memory.
     #[tactic(auto, using(crate::proofs::Entering::byte_begin))]
     pub fn tuple_variant<'de, R: Read>(
         self,
@@ -149,8 +150,8 @@ impl EnumAccessor {
         de.begin_items("tuple", 4, self.steps)
     }
 
-    /// Begins the map that the variant holds. The names of its fields are not looked at. Its end
-    /// gives all steps back. Takes no memory.
+    /// Begins the map that the variant holds. The names of its fields are not used. The end of the
+    /// map gives all steps back. It takes no memory.
     #[tactic(auto, using(crate::proofs::Entering::byte_begin))]
     pub fn struct_variant<'de, R: Read>(
         self,
@@ -173,7 +174,7 @@ impl EnumAccessor {
         DecodeError::mismatch("enum", self.first)
     }
 
-    /// Goes on only if the enum is a map.
+    /// Checks that the enum is a map.
     #[tactic(auto, using(crate::proofs::Entering::other_byte))]
     fn enter_map<'de, R: Read>(&self, de: &mut Deserializer<'de, R>) -> ReadResult<(), R>
         ensures form { Over R.reading

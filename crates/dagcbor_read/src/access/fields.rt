@@ -1,4 +1,4 @@
-//! What the entries of a map make: the places of a struct, or a map.
+//! Reading the entries of a map: into the places of a struct, or into a map.
 
 ghost use Rattle.std.specs.Prelude.{◌≡◌, ◌+◌, ◌<◌, ◌≤◌, ℕ, List, [], Option, option_map, true};
 ghost use Rattle.std.specs.Prelude.{false, codes, IfOk, IfErr, IfSome, None, ⊤};
@@ -33,10 +33,10 @@ pub trait Fields<'de>: Sized + Drop {
 
     ghost state: { Self.Places → State };
 
-    /// Before anything was read.
+    /// The state before anything was read.
     ghost unread: { State };
 
-    /// What the value of a key makes of it, if the fields have these names.
+    /// How the value of a key changes the state, if the fields have these names.
     ghost shape: { List (List ℕ) → FieldShape State };
 
     /// What the fields hold, wherever that is in memory.
@@ -44,13 +44,13 @@ pub trait Fields<'de>: Sized + Drop {
 
     ghost meaning: { Self → View };
 
-    /// What was read, once all was, or none if a field is missing.
+    /// The view once all entries were read, or `None` if a field is missing.
     ghost finish: { State → Option View };
 
     /// How the value of a key is refused, in addition to the law.
     ghost refuses: { {E : Type 0} → DeState → DecodeError E → DeState → Type 0 } = { λ old e new. ⊤ };
 
-    /// The places before anything was read.
+    /// Returns the places before anything was read.
     fn unread(alloc: Global) -> Self::Places
         ensures { state result ≡ unread };
 
@@ -71,8 +71,8 @@ pub trait Fields<'de>: Sized + Drop {
         ensures refuses { IfErr result
             (λ e. Self.refuses (de_state R.reading de.old) e (de_state R.reading de.new)) };
 
-    /// Reads the next entry and its value, if its key is one of the names and a slice has it whole.
-    /// A refusal of the value goes into `refusal`, which is none before. It may read nothing.
+    /// Reads the next entry, if its key is one of the names and a slice has the key whole. A
+    /// refusal of the value goes into `refusal`, which is `None` before. It may read nothing.
     fn read_named<R: Read>(
         places: &mut Self::Places,
         alloc: Global,
@@ -91,7 +91,7 @@ pub trait Fields<'de>: Sized + Drop {
             (λ e. RefusesPast (PassesKey (accessor_state entries.old).last) Self.refuses
             (de_state R.reading de.old) e (de_state R.reading de.new)) };
 
-    /// What the places make once all was read, or none if a field is missing.
+    /// Returns the value once all entries were read, or `None` if a field is missing.
     fn finish(places: Self::Places) -> Option<Self>
         ensures { option_map meaning result ≡ finish (state places) };
 }
@@ -123,7 +123,7 @@ fn read_by_key<'de, F: Fields<'de>, R: Read>(
     Ok(())
 }
 
-/// Reads all that is left of a map, and ends it.
+/// Reads all entries left of a map, and ends it.
 pub(crate) fn read_entries_left<'de, F: Fields<'de>, R: Read>(
     alloc: Global,
     names: &[&'de str],
@@ -157,7 +157,7 @@ pub(crate) fn read_entries_left<'de, F: Fields<'de>, R: Read>(
     Ok(places)
 }
 
-/// Reads the entries of a map, in any order: what they make, before it is finished.
+/// Reads the entries of a map, in any order, and returns the places before they are finished.
 pub fn read_fields<'de, F: Fields<'de>, R: Read>(
     alloc: Global,
     de: &mut Deserializer<'de, R>,
@@ -174,7 +174,7 @@ pub fn read_fields<'de, F: Fields<'de>, R: Read>(
     read_entries_left::<F, R>(alloc, &[], entries, de)
 }
 
-/// Reads the value of a field into its place, which a refusal leaves as it was.
+/// Reads the value of a field into its place. A refusal leaves the place as it was.
 pub fn read_into<'de, T: Deserialize<'de>, R: Read>(
     alloc: Global,
     place: &mut Option<T>,

@@ -1,4 +1,4 @@
-//! Groups of fields, which come before others in a row: a field, or two groups.
+//! Groups of fields that come before others in a row: one field, or two groups.
 
 ghost use Rattle.std.specs.Prelude.{◌≡◌, ◌<◌, ℕ, List, [], Option, None, Some, option_map, Err, IfErr};
 ghost use Rattle.std.specs.Prelude.{IfSome, IsSomeAnd, MatchOption, false, ⊤};
@@ -32,41 +32,41 @@ use std::alloc::Global;
 #[derive(Drop)]
 pub struct Required<T>(pub T);
 
-/// A field that may be absent. A null in its place is read as any other value of its type. An
-/// `Option` in a row of fields takes a null for an absent field.
+/// A field that may be absent. A null in its place is read as any other value of its type. By
+/// contrast, an `Option` in a row of fields takes a null for an absent field.
 #[derive(Debug, Drop)]
 pub struct Omissible<T>(pub Option<T>);
 
-/// A group of fields, which comes before others in a row: a field (`Required`, `Option`,
+/// A group of fields that comes before others in a row: a field (`Required`, `Option`,
 /// `Omissible`), or two groups, the second after the first. What a row holds and shows is flat by
-/// computation, however its fields are grouped: `((a, b), (c, ()))` is as `(a, (b, (c, ())))`.
+/// computation, however its fields are grouped: `((a, b), (c, ()))` equals `(a, (b, (c, ())))`.
 pub trait FieldGroup<'de>: Sized + Drop {
-    /// What was read of it so far.
+    /// What was read of the group so far.
     type Own: Drop;
 
     ghost OwnState: { Type 0 };
 
     ghost own_state: { Self.Own → OwnState };
 
-    /// Before anything was read.
+    /// The state before anything was read.
     ghost own_unread: { OwnState };
 
-    /// What the value of a key makes of it, if the row has these names from here on; none if the
-    /// key is not one of its own.
+    /// How the value of a key changes the state, if the row has these names from here on; `None` if
+    /// the key does not belong to the group.
     ghost own_shape: { OwnShape OwnState };
 
-    /// The names after its own.
+    /// The names after the group's own.
     ghost behind: { List (List ℕ) → List (List ℕ) };
 
-    /// What it holds, wherever it is in memory.
+    /// What the group holds, wherever it is in memory.
     ghost OwnView: { Type 0 };
 
     ghost own_meaning: { Self → OwnView };
 
-    /// What was read, once all was, or none if a field is missing.
+    /// The view once all fields were read, or `None` if one is missing.
     ghost own_finish: { OwnState → Option OwnView };
 
-    /// What it holds together with what comes after it.
+    /// The state of the group together with the state of the fields after it.
     ghost Held: { Type 0 → Type 0 };
 
     ghost held: { HeldBefore Held OwnState };
@@ -75,7 +75,7 @@ pub trait FieldGroup<'de>: Sized + Drop {
 
     ghost joins: { JoinsShape OwnState Held held shape_before behind own_shape };
 
-    /// What it shows together with what comes after it.
+    /// The view of the group together with the view of the fields after it.
     ghost Shows: { Type 0 → Type 0 };
 
     ghost shows: { HeldBefore Shows OwnView };
@@ -90,11 +90,12 @@ pub trait FieldGroup<'de>: Sized + Drop {
     fn unread_own(alloc: Global) -> Self::Own
         ensures { own_state result ≡ own_unread };
 
-    /// The names after its own.
+    /// Returns the names after the group's own.
     fn skip_names<'n, 'm>(names: &'n [&'m str]) -> &'n [&'m str]
         ensures { texts result.now ≡ behind (texts names.now) };
 
-    /// Reads the value of the key, if it is one of its own. A refusal leaves what was read before.
+    /// Reads the value of the key, if the key belongs to the group. A refusal keeps what was read
+    /// before.
     fn read_own<R: Read>(
         own: &mut Self::Own,
         alloc: Global,
@@ -113,8 +114,8 @@ pub trait FieldGroup<'de>: Sized + Drop {
         ensures refuses { IfSome result (λ r. IfErr r
             (λ e. Self.own_refuses (de_state R.reading de.old) e (de_state R.reading de.new))) };
 
-    /// Reads the next entry and its value, if its key is one of its own names and a slice has it
-    /// whole. A refusal of the value goes into `refusal`, which is none before.
+    /// Reads the next entry, if its key belongs to the group and a slice has the key whole. A
+    /// refusal of the value goes into `refusal`, which is `None` before.
     fn read_own_named<R: Read>(
         own: &mut Self::Own,
         alloc: Global,
@@ -133,12 +134,12 @@ pub trait FieldGroup<'de>: Sized + Drop {
             (λ e. RefusesPast (PassesKey (accessor_state entries.old).last) Self.own_refuses
             (de_state R.reading de.old) e (de_state R.reading de.new)) };
 
-    /// What was read, once all was, or none if a field is missing.
+    /// Returns the group once all fields were read, or `None` if one is missing.
     fn finish_own(own: Self::Own) -> Option<Self>
         ensures { option_map own_meaning result ≡ own_finish (own_state own) };
 }
 
-/// The names after the first.
+/// Returns the names after the first.
 #[inline(always)]
 fn skip_first<'n, 'm>(names: &'n [&'m str]) -> &'n [&'m str]
     ensures { texts result.now ≡ behind_first (texts names.now) }
@@ -176,7 +177,7 @@ fn read_first<'de, T: Deserialize<'de>, R: Read>(
     Some(read_into(alloc, own, de))
 }
 
-/// Reads the value of a name that was taken into its place, or puts its refusal into `refusal`.
+/// Reads the value of a name that was taken into its place, or puts the refusal into `refusal`.
 #[inline(always)]
 fn read_named_value<'de, T: Deserialize<'de>, R: Read>(
     place: &mut Option<T>,
@@ -206,8 +207,8 @@ fn read_named_value<'de, T: Deserialize<'de>, R: Read>(
     }
 }
 
-/// Reads the next entry into the place of a field, if its key is the first name and a slice has it
-/// whole.
+/// Reads the next entry into the place of a field, if its key is the first name and a slice has the
+/// key whole.
 #[inline(always)]
 fn read_first_named<'de, T: Deserialize<'de>, R: Read>(
     own: &mut Option<T>,
@@ -564,7 +565,7 @@ impl<'de, A: FieldGroup<'de>, B: FieldGroup<'de>> FieldGroup<'de> for (A, B) {
     }
 }
 
-/// A group before others.
+/// A group before other fields.
 impl<'de, A: FieldGroup<'de>, L: Fields<'de>> Fields<'de> for (A, L) {
     type Places = (A::Own, L::Places);
 

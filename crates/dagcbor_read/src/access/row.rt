@@ -1,4 +1,4 @@
-//! What the items of a list make: a vector, or the parts of a tuple of any number.
+//! Reading the items of a list: into a vector, or into a tuple of any size.
 
 ghost use Rattle.std.specs.Prelude.{◌≡◌, ◌+◌, ◌-◌, ◌≤◌, ℕ, min, Bool, List, map, false, ⊤, IfOk};
 ghost use Rattle.std.specs.Prelude.{IfErr, All, codes, Option, option_map, IfSome};
@@ -20,26 +20,26 @@ use dagcbor_core::DecodeError;
 use dagcbor_heads::{Read, ReadResult};
 use std::alloc::Global;
 
-/// What the items of a list make, one after another: all of one type, in a vector, or each of a
-/// type of its own, as `(A, (B, ()))` has them.
+/// What the items of a list make, one after another: all of one type, in a vector, or each of its
+/// own type, as in `(A, (B, ()))`.
 pub trait Row<'de>: Sized + Drop {
     ghost View: { Type 0 };
 
     ghost meaning: { Self → View };
 
-    /// What the items show.
+    /// The view of the items.
     ghost shape: { Shape Items View };
 
-    /// Where the parts are in memory, for an input that lends and for one that does not.
+    /// Where the parts are in memory, depending on whether the input lends.
     ghost lies: { Bool → Self → Type 0 };
 
-    /// How many items it takes if so many are left.
+    /// How many items it takes if this many are left.
     ghost takes: { ℕ → ℕ };
 
-    /// How the items are refused if so many are left, beside the law.
+    /// How the items are refused if this many are left, in addition to the law.
     ghost refuses: { {E : Type 0} → ℕ → DeState → DecodeError E → DeState → Type 0 };
 
-    /// Reads from the first item that is left on.
+    /// Reads the items, from the first that is left.
     fn read_row<R: Read>(
         alloc: Global,
         items: &mut Accessor<'de>,
@@ -135,7 +135,7 @@ impl<'de, T: Deserialize<'de>, L: Row<'de>> Row<'de> for (T, L) {
     }
 }
 
-/// An item that may be absent, if none comes after it.
+/// An item that may be absent if no item comes after it.
 #[derive(Debug, Drop)]
 pub struct OmissibleItem<T, L>(pub Option<T>, pub L);
 
@@ -166,7 +166,7 @@ impl<'de, T: Deserialize<'de>, L: Row<'de>> Row<'de> for OmissibleItem<T, L> {
     }
 }
 
-/// Reads all that is left of a list, and ends it.
+/// Reads all items left of a list, and ends it.
 #[inline(always)]
 pub(crate) fn read_rest<'de, L: Row<'de>, R: Read>(
     alloc: Global,
@@ -190,8 +190,7 @@ pub(crate) fn read_rest<'de, L: Row<'de>, R: Read>(
     Ok(row)
 }
 
-/// Reads a tuple whose parts are the items of a list, as many as there are. The length is not
-/// looked at.
+/// Reads a tuple whose parts are all the items of a list. The length is not used.
 pub fn read_tuple<'de, L: Row<'de>, R: Read>(
     alloc: Global,
     len: usize,

@@ -1,4 +1,4 @@
-//! Structs, whose fields are read by their names.
+//! Structs: their fields are read by name.
 
 ghost use Rattle.std.specs.Prelude.{◌≡◌, ◌⊎◌, None, Some, MatchResult, Err, IfErr, codes};
 ghost use Rattle.dagcbor_core.specs.declared.name.Name.{Name};
@@ -25,8 +25,8 @@ use dagcbor_core::DecodeError;
 use dagcbor_heads::{Read, ReadResult};
 use std::alloc::Global;
 
-/// No other field: any other key is refused. Use it in place of `()`, which skips the values of
-/// other keys.
+/// The end of a row of fields, after which any other key is refused. Use it in place of `()`, which
+/// skips the values of other keys.
 #[derive(Clone, Copy, Debug, PartialEq, Eq)]
 pub struct Closed;
 
@@ -79,7 +79,7 @@ impl<'de> Fields<'de> for () {
     }
 }
 
-/// No field, and any key is refused.
+/// No field: any key is refused.
 impl<'de> Fields<'de> for Closed {
     type Places = ();
 
@@ -128,7 +128,7 @@ impl<'de> Fields<'de> for Closed {
     }
 }
 
-/// The fields, once all were read.
+/// Returns the fields once all entries were read, or an error if a field is missing.
 #[inline(always)]
 fn finished<'de, F: Fields<'de>, E>(places: F::Places) -> Result<F, DecodeError<E>>
     ensures finish { MatchResult result
@@ -166,7 +166,7 @@ pub fn read_struct<'de, F: Fields<'de>, R: Read>(
     finished(places)
 }
 
-/// Reads the fields that a variant holds, which have these names, whatever their order.
+/// Reads the fields that a variant holds, which have these names, in any order.
 pub fn read_struct_variant<'de, F: Fields<'de>, R: Read>(
     alloc: Global,
     variant: EnumAccessor,

@@ -1,4 +1,4 @@
-//! Enums, whose variants are read by their names.
+//! Enums: their variants are read by name.
 
 ghost use Rattle.std.specs.Prelude.{◌≡◌, ◌+◌, ◌≤◌, false, IfErr, ⊤};
 ghost use Rattle.dagcbor_core.specs.declared.error.DecodeError.{DecodeError};
@@ -13,20 +13,20 @@ use crate::deserializer::Deserializer;
 use dagcbor_heads::{Read, ReadResult};
 use std::alloc::Global;
 
-/// An enum that is read through a match on its variant's name.
+/// An enum that is read by a match on the variant's name.
 pub trait Variants<'de>: Sized + Drop {
     /// What a value holds, wherever it is in memory.
     ghost View: { Type 0 };
 
     ghost meaning: { Self → View };
 
-    /// What its variants show.
+    /// The view of its variants.
     ghost shape: { EnumShape View };
 
-    /// How a variant is refused, beside the law.
+    /// How a variant is refused, in addition to the law.
     ghost refuses: { {E : Type 0} → DeState → DecodeError E → DeState → Type 0 } = { λ old e new. ⊤ };
 
-    /// Reads what the variant of this name holds, or ends it.
+    /// Reads what the variant of this name holds, or ends a variant that is its name alone.
     fn read_variant<R: Read>(
         alloc: Global,
         name: &str,
@@ -42,7 +42,7 @@ pub trait Variants<'de>: Sized + Drop {
             (λ e. Self.refuses (de_state R.reading de.old) e (de_state R.reading de.new)) };
 }
 
-/// Reads an enum. The names of its variants are not looked at.
+/// Reads an enum. The names of its variants are not used.
 pub fn read_enum<'de, V: Variants<'de>, R: Read>(
     alloc: Global,
     name: &str,

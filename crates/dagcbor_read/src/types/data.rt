@@ -1,4 +1,4 @@
-//! The types of items of any kind.
+//! How items of any kind are read.
 
 ghost use Rattle.std.specs.Prelude.{refl};
 ghost use Rattle.ipld_tree.specs.Ipld.{tree_of};
@@ -17,7 +17,7 @@ use dagcbor_heads::{Read, ReadResult};
 use ipld_tree::Ipld;
 use std::alloc::Global;
 
-/// Accepts any item, and keeps nothing of it.
+/// A type that accepts any item, and keeps nothing of it.
 #[derive(Clone, Copy, Debug, PartialEq, Eq)]
 pub struct IgnoredAny;
 

@@ -1,4 +1,4 @@
-//! Types that hold values of another.
+//! Types that hold values of another type.
 
 ghost use Rattle.std.specs.Prelude.{Option, option_map, box_value, IfSome, List, map, All, codes};
 ghost use Rattle.dagcbor_items.specs.Shapes.{option_of, boxed_of};

@@ -1,4 +1,4 @@
-//! The types of leaves. The input lends texts and bytes of types that have no memory of their own.
+//! Leaves. The input lends texts and bytes to types that have no memory of their own.
 
 ghost use Rattle.std.specs.Prelude.{◌≡◌, ◌↔◌, refl, ◌^◌, ℕ, ℤ, List, Bool, true, string_bytes};
 ghost use Rattle.std.specs.Prelude.{codes};
@@ -349,7 +349,7 @@ impl<'de> Deserialize<'de> for &'de str {
     }
 }
 
-/// Lent if the input lends, and so not `DeserializeOwned`.
+/// A text that is lent if the input lends. For that reason it is not `DeserializeOwned`.
 impl Shown for CowStr<'_> {
     ghost View = { List ℕ };
 

@@ -1,4 +1,4 @@
-//! Tuples of one to four.
+//! Tuples of one to four parts.
 
 ghost use Rattle.std.specs.Prelude.{refl, codes};
 ghost use Rattle.dagcbor_read.specs.Parts.{IfRefused, RefusesListAs, RefusesFirstPart};

@@ -156,8 +156,8 @@ impl<'de, V: Deserialize<'de>> Fields<'de> for HashMap<String, V> {
     }
 }
 
-/// For untrusted bytes read a `BTreeMap`. The hasher's seed is fixed, so anyone can find keys whose
-/// hashes collide, and n such keys take time in proportion to the square of n.
+/// For untrusted bytes, read a `BTreeMap`. The hasher's seed is fixed, so anyone can find keys
+/// whose hashes collide. With n such keys, reading takes time in proportion to the square of n.
 impl<'de, V: Deserialize<'de>> Deserialize<'de> for HashMap<String, V> {
     ghost answers = { IfRefused (RefusesFieldsAs (RefusesToKeep V.answers) (codes "map")) };
 

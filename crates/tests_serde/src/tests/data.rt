@@ -12,7 +12,7 @@ use tests_shared::{agree, nested};
 pub(super) const ENVELOPE: &[u8] =
     b"\xa5\x63cid\xd8\x2a\x45\x00\x01\x55\x00\x00\x63raw\x42\x09\x08\x64body\xa2\x61a\xa1\x61/\x41\x01\x62zz\x87\x01\x20\xf6\xf5\x41\xff\x61t\xa0\x64data\x82\xd8\x2a\x45\x00\x01\x55\x00\x00\x41x\x64link\xd8\x2a\x45\x00\x01\x55\x00\x00";
 
-/// The map from "b" and "aa" to a link each, and a number.
+/// A list of a map, with a link at each of the keys "b" and "aa", and a number.
 const PINS: &[u8] =
     b"\x82\xa2\x61b\xd8\x2a\x45\x00\x01\x55\x00\x00\x62aa\xd8\x2a\x45\x00\x01\x55\x00\x00\x07";
 
@@ -26,7 +26,7 @@ fn any_data_goes_both_ways(rt: HostRuntime) -> Result<(), Fail> {
     is_written_again::<(BTreeMap<String, Link>, Option<Any>)>(alloc, PINS)
 }
 
-/// The deepest block is read: one list more is no block.
+/// The deepest block is read. With one more list it is not a block.
 #[test]
 fn any_data_is_as_deep_as_a_block(rt: HostRuntime) -> Result<(), Fail> {
     let alloc = rt.alloc();
@@ -35,7 +35,7 @@ fn any_data_is_as_deep_as_a_block(rt: HostRuntime) -> Result<(), Fail> {
     is_refused::<Any>(alloc, &deeper, r#"NoBlock(DepthOverflow { name: "any" })"#)
 }
 
-/// Fails where any data of JSON is told otherwise again.
+/// Fails if data from JSON is written as other JSON.
 fn is_told_again(alloc: Global, told: &str) -> Result<(), Fail> {
     let read: Any = serde_json::from_str(alloc, told)?;
     agree(serde_json::to_string(alloc, &read)?.as_str(), told)
@@ -46,7 +46,7 @@ const JSON: &str = r#"{"a":{"/":[1,85,0,0]},"b":[1,-2,null,true,"t",{}]}"#;
 const OF_JSON: &[u8] =
     b"\xa2\x61a\xd8\x2a\x45\x00\x01\x55\x00\x00\x61b\x86\x01\x21\xf6\xf5\x61t\xa0";
 
-/// A link of JSON is read as one, and another map of that name as a map.
+/// A link in JSON is read as a link, and other maps with the key `/` as maps.
 #[test]
 fn any_data_goes_through_json(rt: HostRuntime) -> Result<(), Fail> {
     let alloc = rt.alloc();
@@ -64,7 +64,7 @@ fn any_data_goes_through_json(rt: HostRuntime) -> Result<(), Fail> {
     agree(serde_json::from_str::<Any>(alloc, "1.5").is_err(), true)
 }
 
-/// To JSON a link is a map with its name, and it is read from that again.
+/// In JSON a link is a map with its name, and is read back from that.
 #[test]
 fn a_link_goes_through_json(rt: HostRuntime) -> Result<(), Fail> {
     let alloc = rt.alloc();

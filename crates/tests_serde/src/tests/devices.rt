@@ -1,5 +1,5 @@
-//! Values to devices and from sources. What a device that fails holds, and what a source that fails
-//! answers, `faults/run` shows.
+//! Values sent to devices, and read from sources. `faults/run` tests what a failing device holds,
+//! and what is returned for a failing source.
 
 use super::data::ENVELOPE;
 use super::link;

@@ -1,5 +1,6 @@
-//! The forms of a derive, with the bytes that serde_ipld_dagcbor 0.7.0 writes of them in Rust, where
-//! docs/TYPES.md says no other. An encoder apart made them: each row is a list of values.
+//! The forms of a derive, with the bytes that serde_ipld_dagcbor 0.7.0 writes for them in Rust,
+//! unless docs/TYPES.md says otherwise. A separate encoder made the bytes. Each row is a list of
+//! values.
 
 use super::{CID, goes_both_ways, is_read, is_written_again, link};
 use crate::types::{
@@ -33,7 +34,7 @@ fn types_of_std_have_one_form(rt: HostRuntime) -> Result<(), Fail> {
     is_shown::<Option<Option<u8>>>(alloc, b"\xf6", "Ok(None)")
 }
 
-/// The bytes show this to the type, as text.
+/// Checks that the bytes are read as this value, as text.
 fn is_shown<T: DeserializeOwned + Debug>(
     alloc: Global,
     bytes: &[u8],
@@ -42,7 +43,7 @@ fn is_shown<T: DeserializeOwned + Debug>(
     is_told(alloc, &from_slice_owned::<T>(alloc, bytes), told)
 }
 
-/// Keys of maps, as they are given and in key order.
+/// Chars and variants are keys of maps, and are written in key order.
 #[test]
 fn keys_are_chars_and_variants(rt: HostRuntime) -> Result<(), Fail> {
     let bytes = b"\x82\xa2\x64Left\x01\x65Right\x02\xa2\x61a\x02\x62\xc3\xa9\x01";
@@ -63,7 +64,7 @@ fn types_go_through_others(rt: HostRuntime) -> Result<(), Fail> {
     goes_both_ways(rt.alloc(), &(Level { height: 3 }, Even(4)), b"\x82\x03\x04")
 }
 
-/// A struct whose third field is left out or made where it is absent, as the second is.
+/// Makes a struct whose third field is left out or made if it is absent, as the second is.
 fn renamed(second: u8, third: u8, fifth: Option<u8>) -> Renamed {
     Renamed {
         first_name: 1,
@@ -115,7 +116,8 @@ const TAGGED: &[u8] =
 const EITHER: &[u8] =
     b"\x83\x44\x01\x55\x00\x00\xd8\x2a\x45\x00\x01\x55\x00\x00\x82\xd8\x2a\x45\x00\x01\x55\x00\x00\x01";
 
-/// A link stays one among what is read twice. Bytes take no link, and are none.
+/// A link in data that is read twice stays a link. A byte string is not read as a link, nor a link
+/// as bytes.
 #[test]
 fn links_stay_links_in_variants(rt: HostRuntime) -> Result<(), Fail> {
     let alloc = rt.alloc();
@@ -138,7 +140,7 @@ fn links_stay_links_in_variants(rt: HostRuntime) -> Result<(), Fail> {
 const FLAT: &[u8] =
     b"\xa4\x61b\x02\x61z\xa2\x61/\x01\x61c\x80\x63cid\xd8\x2a\x45\x00\x01\x55\x00\x00\x64type\x66Pinned";
 
-/// Any data keeps what stands in it to itself.
+/// The entries inside `Any` data stay there.
 #[test]
 fn flattened_maps_are_put_in_order(rt: HostRuntime) -> Result<(), Fail> {
     let alloc = rt.alloc();

@@ -1,4 +1,4 @@
-//! Records whose unknown fields are kept. An encoder apart made the blocks.
+//! Records whose unknown fields are kept. A separate encoder made the blocks.
 
 use super::{is_refused, is_written_again};
 use crate::types::{Around, Beside, Item, Late, Post, Record, Shared};
@@ -34,7 +34,7 @@ const POSTS: &[(&[u8], &str)] = &[
     ),
 ];
 
-/// The keys of the entries that are kept are these.
+/// Checks that the keys of the entries that are kept are these.
 fn are_kept(alloc: Global, rest: &Rest, told: &str) -> Result<(), Fail> {
     let mut keys = Vec::new(alloc);
     for (key, _) in rest.entries.0.iter() {
@@ -56,7 +56,7 @@ fn a_post_keeps_what_it_does_not_name(rt: HostRuntime) -> Result<(), Fail> {
     Ok(())
 }
 
-/// A post, with one more entry.
+/// Makes a post with one more entry.
 fn post(alloc: Global, key: &str, value: Ipld) -> Result<Post, Fail> {
     let mut rest = BTreeMap::new(alloc);
     rest.insert(String::from_str(alloc, "a")?, Ipld::Integer(1))?;
@@ -70,7 +70,7 @@ fn post(alloc: Global, key: &str, value: Ipld) -> Result<Post, Fail> {
     })
 }
 
-/// The entries stand in key order, whichever of them are fields.
+/// The entries are in key order, whichever of them are fields.
 #[test]
 fn a_post_is_written_in_order(rt: HostRuntime) -> Result<(), Fail> {
     let alloc = rt.alloc();
@@ -91,7 +91,7 @@ fn a_key_of_a_field_is_not_written_twice(rt: HostRuntime) -> Result<(), Fail> {
     agree(to_vec(alloc, &other).is_ok(), true)
 }
 
-/// Blocks that are no posts.
+/// Blocks that are not posts.
 const NO_POSTS: &[(&[u8], &str)] = &[
     (
         b"\xa3\x61x\x01\x64text\x62hi\x65$type\x61p",
@@ -113,7 +113,8 @@ fn a_post_has_its_fields(rt: HostRuntime) -> Result<(), Fail> {
     Ok(())
 }
 
-/// A post after so many entries with keys of one byte, and before so many with keys of ten.
+/// Makes a post after `before` entries with keys of one byte, and before `after` entries with keys
+/// of ten.
 fn wide(alloc: Global, before: u8, after: u8) -> Result<Vec<u8>, Fail> {
     let count = before.saturating_add(after).saturating_add(3);
     let mut block = vec![in alloc; 0xb8u8, count]?;
@@ -128,7 +129,8 @@ fn wide(alloc: Global, before: u8, after: u8) -> Result<Vec<u8>, Fail> {
     Ok(block)
 }
 
-/// Which fields were read is known of the first 63 entries. Nothing else is tried after that.
+/// Which fields were read is known only for the first 63 entries. A field after these is refused,
+/// and no other variant is tried.
 #[test]
 fn fields_are_among_the_first_entries(rt: HostRuntime) -> Result<(), Fail> {
     let alloc = rt.alloc();
@@ -174,7 +176,7 @@ fn what_is_kept_is_kept_once(rt: HostRuntime) -> Result<(), Fail> {
 }
 
 /// An enum that is flattened does not tell which entries it took, nor does a struct that flattens
-/// values of its own. So they are there twice.
+/// values of its own. So `Rest` keeps these entries too.
 #[test]
 fn entries_of_which_nothing_is_told_are_kept_too(rt: HostRuntime) -> Result<(), Fail> {
     let alloc = rt.alloc();
@@ -187,7 +189,7 @@ fn entries_of_which_nothing_is_told_are_kept_too(rt: HostRuntime) -> Result<(), 
     is_told(alloc, &to_vec(alloc, &around), "Err(RepeatedKey)")
 }
 
-/// Where nothing else reads the map, all of it is kept.
+/// If nothing else reads the map, all of it is kept.
 #[test]
 fn the_rest_may_be_all(rt: HostRuntime) -> Result<(), Fail> {
     let alloc = rt.alloc();
@@ -199,7 +201,7 @@ fn the_rest_may_be_all(rt: HostRuntime) -> Result<(), Fail> {
 const JSON: &str =
     r#"{"$type":"p","createdAt":"z","text":"hi","langs":["en"],"via":{"/":[1,85,0,0]}}"#;
 
-/// Another format keeps them too, after the fields.
+/// In another format, such entries are kept too, after the fields.
 #[test]
 fn a_post_goes_through_json(rt: HostRuntime) -> Result<(), Fail> {
     let alloc = rt.alloc();

@@ -1,4 +1,4 @@
-//! What has no spelling, and what no type accepts.
+//! Values without a spelling, and bytes that a type does not accept.
 
 use super::{is_read, is_refused, is_written_again};
 use crate::types::{Even, Plain, Point, Renamed, Shape, Twice};
@@ -9,12 +9,12 @@ use std::collections::BTreeMap;
 use std::test::Fail;
 use tests_shared::is_told;
 
-/// A map of one entry that is named as links are in JSON.
+/// A map of one entry, whose key is that of a link in JSON.
 const SLASH: &[u8] = b"\xa1\x61\x2f\x44\x01\x55\x00\x00";
 
 const PINNED: &[u8] = b"\xd8\x2a\x45\x00\x01\x55\x00\x00";
 
-/// The type accepts none of these bytes, and what stands beside them is the refusal.
+/// Checks that the type does not accept the bytes of any row, with the row's error.
 fn each_is_refused<T: DeserializeOwned>(alloc: Global, rows: &[(&[u8], &str)]) -> Result<(), Fail> {
     for (bytes, told) in rows {
         is_refused::<T>(alloc, bytes, told)?;
@@ -22,7 +22,7 @@ fn each_is_refused<T: DeserializeOwned>(alloc: Global, rows: &[(&[u8], &str)]) -
     Ok(())
 }
 
-/// The value has no spelling, and this is the refusal.
+/// Checks that the value has no spelling, with this error.
 fn is_unwritten<T: Serialize>(alloc: Global, value: &T, told: &str) -> Result<(), Fail> {
     is_told(alloc, &to_vec(alloc, value), told)
 }
@@ -63,7 +63,7 @@ const STRUCTS: &[(&[u8], &str)] = &[
         b"\xa1\x61a\x01",
         r#"Misfit { cause: MissingField("b"), at: 4 }"#,
     ),
-    // A struct with names is no list.
+    // A struct with named fields is not read from a list.
     (b"\x81\x01", "Misfit { cause: Mismatch(129), at: 0 }"),
 ];
 
@@ -108,7 +108,7 @@ fn variants_that_are_none_are_refused(rt: HostRuntime) -> Result<(), Fail> {
     is_read(rt.alloc(), b"\xa1\x63dot\xf6", &Shape::Dot)
 }
 
-/// A map of that name is no link, and a link is no such map.
+/// A map with that name is not a link, and a link is not such a map.
 #[test]
 fn no_other_value_is_a_link(rt: HostRuntime) -> Result<(), Fail> {
     let alloc = rt.alloc();

@@ -1,4 +1,4 @@
-//! Any data in the fields of a type, and links, data and bytes under their own types.
+//! A type whose fields are any data, and links, data and bytes in types of their own.
 
 use dagcbor_serde::{Any, Link};
 use ipld_tree::{Cid, Ipld};

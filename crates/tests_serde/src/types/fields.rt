@@ -1,4 +1,4 @@
-//! Structs: one for each form that a derive knows, as docs/TYPES.md lists them.
+//! Structs: one for each form that a derive supports, as docs/TYPES.md lists them.
 
 use crate::types::Tagged;
 use dagcbor_serde::Any;
@@ -24,7 +24,7 @@ pub struct Plain {
     pub b: u8,
 }
 
-/// Fields under other names, left out, or made.
+/// Fields with other names, left out, or made.
 #[derive(Drop, Serialize, Deserialize)]
 #[serde(rename_all = "SCREAMING-KEBAB-CASE", deny_unknown_fields)]
 pub struct Renamed {
@@ -43,7 +43,7 @@ fn seven() -> u8 {
     7
 }
 
-/// Maps that share one map, beside any data.
+/// Two types that share one map, and any data in it.
 #[derive(Drop, Serialize, Deserialize)]
 pub struct Flat {
     #[serde(flatten)]
@@ -53,7 +53,7 @@ pub struct Flat {
     pub more: Plain,
 }
 
-/// Two fields of one name share a map.
+/// Two fields with the same name that share a map.
 #[derive(Drop, Serialize)]
 pub struct Twice {
     pub b: u8,

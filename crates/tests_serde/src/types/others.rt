@@ -1,8 +1,8 @@
-//! Types that are written and read through others.
+//! Types that are written and read as other types.
 
 use serde::{Deserialize, Serialize};
 
-/// Written and read through another type.
+/// A type that is written and read as another type.
 #[derive(Clone, Copy, Drop, Serialize, Deserialize)]
 #[serde(from = "u8", into = "u8")]
 pub struct Level {
@@ -21,7 +21,7 @@ impl From<Level> for u8 {
     }
 }
 
-/// Even numbers alone.
+/// Even numbers only.
 #[derive(Drop, Serialize, Deserialize)]
 #[serde(try_from = "u8", transparent)]
 pub struct Even(pub u8);

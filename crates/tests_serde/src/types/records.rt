@@ -16,7 +16,7 @@ pub struct Post {
     pub rest: Rest,
 }
 
-/// Told by a field among those that are kept.
+/// An enum whose variant is identified by a field, among fields that are kept.
 #[derive(Drop, Serialize, Deserialize)]
 #[serde(tag = "$type")]
 pub enum Record {
@@ -36,7 +36,7 @@ pub enum Item {
     Other(Any),
 }
 
-/// A struct, and twice the rest.
+/// A struct, and the rest twice.
 #[derive(Drop, Serialize, Deserialize)]
 pub struct Shared {
     #[serde(flatten)]
@@ -47,7 +47,7 @@ pub struct Shared {
     pub none: Rest,
 }
 
-/// A struct after the rest, which finds no entries.
+/// A struct after the rest. It finds no entries.
 #[derive(Drop, Deserialize)]
 pub struct Late {
     #[serde(flatten)]
@@ -56,7 +56,7 @@ pub struct Late {
     pub plain: Plain,
 }
 
-/// An enum does not tell which entries it took.
+/// An enum, and the rest. The enum does not tell which entries it took.
 #[derive(Drop, Serialize, Deserialize)]
 pub struct Beside {
     #[serde(flatten)]
@@ -65,7 +65,7 @@ pub struct Beside {
     pub rest: Rest,
 }
 
-/// Nor does a struct that flattens values of its own.
+/// A struct that flattens values of its own, and the rest. It does not tell which entries it took.
 #[derive(Drop, Serialize, Deserialize)]
 pub struct Around {
     #[serde(flatten)]

@@ -1,10 +1,10 @@
-//! Enums: one for each way to tell their variants apart, as docs/TYPES.md lists them.
+//! Enums: one for each way to tell variants apart, as docs/TYPES.md lists them.
 
 use crate::types::Plain;
 use dagcbor_serde::{ByteBuf, Link};
 use serde::{Deserialize, Serialize};
 
-/// Each kind of variant, under other names.
+/// Each kind of variant, with other names.
 #[derive(Drop, Serialize, Deserialize)]
 #[serde(rename_all = "snake_case", rename_all_fields = "camelCase")]
 pub enum Shape {
@@ -20,7 +20,7 @@ pub enum Side {
     Right,
 }
 
-/// Told by a field beside the data.
+/// An enum whose variant is identified by a field beside its data.
 #[derive(Drop, Serialize, Deserialize)]
 #[serde(tag = "t", content = "c")]
 pub enum Adjacent {
@@ -29,7 +29,7 @@ pub enum Adjacent {
     Whole(Plain),
 }
 
-/// Told by a field among the data: that of a struct, and a link.
+/// An enum whose variant is identified by a field among its data: that of a struct, or a link.
 #[derive(Drop, Serialize, Deserialize)]
 #[serde(tag = "type")]
 pub enum Tagged {
@@ -40,7 +40,7 @@ pub enum Tagged {
     Unknown,
 }
 
-/// Told by nothing: bytes are tried before a link.
+/// An enum without a tag: bytes are tried before a link.
 #[derive(Drop, Serialize, Deserialize)]
 #[serde(untagged)]
 pub enum Either {

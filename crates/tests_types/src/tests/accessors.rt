@@ -19,7 +19,7 @@ fn a_refusal_of_a_typed_read_lasts(rt: HostRuntime) -> Result<(), Fail> {
     is_told(alloc, &answers, "(Ok(1), Err(TrailingData), Ok(2), Ok(()))")
 }
 
-/// A list's hint, its first item, and what an end before the second is answered.
+/// Returns a list's size hint, its first item, and the result of an end before its second item.
 fn begun_list(
     alloc: Global,
     de: &mut Deserializer<'_, SliceReader<'_>>,
@@ -37,7 +37,7 @@ fn begun_list(
     Ok((hint, first, items.end(de)))
 }
 
-/// Whether a key is lent, and is the text.
+/// Returns whether a key is lent, and is this text.
 fn is_lent_key(key: &Option<CowStr<'_>>, wanted: &str) -> bool {
     match key {
         Some(CowStr::Borrowed(lent)) => *lent == wanted,
@@ -45,7 +45,8 @@ fn is_lent_key(key: &Option<CowStr<'_>>, wanted: &str) -> bool {
     }
 }
 
-/// Whether a map's key is "a" and lent, whether it then owes a value, the value, and the end.
+/// Returns whether a map's key is "a" and lent, whether a value is then owed, and the value. The
+/// map then ends.
 fn one_entry(
     alloc: Global,
     de: &mut Deserializer<'_, SliceReader<'_>>,
@@ -88,7 +89,7 @@ fn an_enum_begins_with_a_text_or_with_a1(rt: HostRuntime) -> Result<(), Fail> {
     agree(name.as_str(), "B")?;
     let part: u8 = variant.newtype_variant(alloc, &mut de)?;
     is_told(alloc, &(part, de.end()), "(1, Ok(()))")?;
-    // The text is left, and is read as the name. No step is spent: none is there.
+    // The text is left, and is read as the name. No step is spent, because none is left.
     let mut de = Deserializer::from_slice_reader(SliceReader::with_depth(b"\x61A", 0));
     let (name, variant) = EnumAccessor::enum_(&mut de)?.variant(alloc, &mut de)?;
     agree(name.as_str(), "A")?;

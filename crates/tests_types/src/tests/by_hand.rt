@@ -1,4 +1,4 @@
-//! Types written by hand that only test the library: written, and read however the bytes come.
+//! Types written by hand only to test the library: written, and read from each kind of reader.
 
 mod data_enum;
 mod enum_struct;
@@ -41,8 +41,8 @@ enum Type {
     Tagged,
 }
 
-/// Fails where a read of the bytes as this type, however they come, answers anything but this, as
-/// text.
+/// Fails if reading the bytes as this type, from any kind of reader, gives a result other than
+/// `told`, as text.
 fn reads(alloc: Global, as_type: &Type, bytes: &[u8], told: &str) -> Result<(), Fail> {
     match as_type {
         Type::One => answers::<One>(alloc, bytes, told),
@@ -62,7 +62,7 @@ fn reads(alloc: Global, as_type: &Type, bytes: &[u8], told: &str) -> Result<(), 
 const ROWS: &[(Type, &[u8], &str)] = &[
     (Type::One, b"\xa1\x61a\x01", "Ok(One { a: 1 })"),
     (Type::One, b"\xa2\x61a\x01\x61b\x05", "Ok(One { a: 1 })"),
-    // What is skipped is read strictly.
+    // Skipped data is read strictly.
     (
         Type::One,
         b"\xa2\x61a\x01\x61b\x18\x05",
@@ -118,7 +118,7 @@ const ROWS: &[(Type, &[u8], &str)] = &[
     (Type::Tagged, b"\xa0", r#"Err(Msg("missing field"))"#),
 ];
 
-/// The parts of a block with a link, and what it is read as: in the place of # stands the CID.
+/// The parts of a block with a link, and what it is read as. The CID replaces `#`.
 const LINKED: &[(Type, &[&[u8]], &str)] = &[
     (
         Type::MyStruct,

@@ -1,4 +1,4 @@
-//! DAG-CBOR as a codec: each call, a caller that knows the trait alone, links, errors.
+//! DAG-CBOR as a codec: each call, a caller that knows only the trait, links, errors.
 
 ghost use Rattle.tests_types.specs.ThereAndBack.{IsThereAndBack};
 
@@ -13,7 +13,7 @@ use tests_shared::{LINK, THREE_LINKS, agree, is_told, joined};
 
 const HELLO: &[u8] = b"\x6c\x68\x65\x6c\x6c\x6f\x20\x77\x6f\x72\x6c\x64\x21";
 
-/// The value's bytes, and the value that they are read back as.
+/// Encodes the value, and decodes the bytes again.
 fn there_and_back<'de, T, C: Codec<'de, T>>(
     alloc: Global,
     value: &T,
@@ -29,7 +29,7 @@ fn there_and_back<'de, T, C: Codec<'de, T>>(
     }
 }
 
-/// Fails where a text is written otherwise, by any call.
+/// Fails if any call writes the text as other bytes.
 fn is_written(alloc: Global, text: &String, wanted: &[u8]) -> Result<(), Fail> {
     let mut device = Vec::new(alloc);
     DagCborCodec::encode(alloc, &mut device, text)?;
@@ -37,7 +37,7 @@ fn is_written(alloc: Global, text: &String, wanted: &[u8]) -> Result<(), Fail> {
     agree(DagCborCodec::encode_to_vec(alloc, text)?.as_slice(), wanted)
 }
 
-/// Fails where a text is read otherwise, by any call.
+/// Fails if any call reads the bytes as another text.
 fn is_read(alloc: Global, bytes: &[u8], wanted: &str) -> Result<(), Fail> {
     let from_source: Result<String, CodecError> = DagCborCodec::decode(alloc, bytes);
     agree(from_source?.as_str(), wanted)?;
@@ -60,7 +60,7 @@ fn a_text_goes_through_each_call(rt: HostRuntime) -> Result<(), Fail> {
     agree(DAG_CBOR_CODE, 0x71)
 }
 
-/// The links of the bytes, as a list.
+/// Returns the links in the bytes, as a list.
 fn links(alloc: Global, bytes: &[u8]) -> Result<Vec<Cid>, CodecError> {
     match DagCborCodec::links(alloc, bytes)?.collect(alloc) {
         Ok(links) => Ok(links),
@@ -68,7 +68,7 @@ fn links(alloc: Global, bytes: &[u8]) -> Result<Vec<Cid>, CodecError> {
     }
 }
 
-/// Fails where other links are found.
+/// Fails if other links are found.
 fn finds(alloc: Global, bytes: &[u8], wanted: &[Cid]) -> Result<(), Fail> {
     agree(links(alloc, bytes)?.as_slice(), wanted)
 }
@@ -80,7 +80,7 @@ fn links_come_in_their_order_with_repeats(rt: HostRuntime) -> Result<(), Fail> {
     agree(block.len(), 146)?;
     let link: Cid = from_slice(alloc, LINK)?;
     finds(alloc, &block, &[link, link, link])?;
-    // A map of "b" and "aa", and an item after it.
+    // A map with the keys "b" and "aa", and an item after it.
     let block =
         b"\xa2\x61\x62\xd8\x2a\x45\x00\x01\x55\x00\x00\x62\x61\x61\xd8\x2a\x45\x00\x01\x71\x00\x00\xf6";
     let links = &[Cid::new_v1(0x55, 0, b"")?, Cid::new_v1(0x71, 0, b"")?];
@@ -88,7 +88,7 @@ fn links_come_in_their_order_with_repeats(rt: HostRuntime) -> Result<(), Fail> {
     finds(alloc, b"\xf6\x00", &[])
 }
 
-/// Fails where the call is not refused, or otherwise than told.
+/// Fails if the call is not refused, or not with this error.
 fn is_refused<T: Drop>(
     alloc: Global,
     refused: Result<T, CodecError>,
@@ -100,7 +100,7 @@ fn is_refused<T: Drop>(
     }
 }
 
-/// What the calls are refused with.
+/// Checks the errors of the calls.
 fn refusals(alloc: Global, bytes: &[u8], large: u128) -> Result<(), Fail> {
     is_refused::<Ipld>(
         alloc,
@@ -132,7 +132,7 @@ fn errors_have_texts(rt: HostRuntime) -> Result<(), Fail> {
     agree(device.is_empty(), true)
 }
 
-/// `?` turns a refusal in memory into one of the codec.
+/// `?` turns an error of the calls in memory into one of the codec.
 fn written_again(alloc: Global, bytes: &[u8]) -> Result<Vec<u8>, CodecError> {
     let value: Ipld = from_slice(alloc, bytes)?;
     Ok(to_vec(alloc, &value)?)

@@ -1,5 +1,5 @@
-//! What a slice lends, and what is read of it without memory: callers of `from_slice` whose
-//! contracts rest on its own.
+//! What a slice lends, and what is read from it without memory: callers of `from_slice` whose
+//! contracts follow from its own.
 
 ghost use Rattle.std.specs.Prelude.{false, IfOk, IfErr};
 ghost use Rattle.std.specs.Cow.{IsBorrowedStr};
@@ -13,14 +13,14 @@ use std::convert::Infallible;
 use std::test::Fail;
 use tests_shared::{Source, agree, is_told};
 
-/// A number, a truth value and a lent text. No memory is wanted.
+/// Reads a number, a truth value and a lent text. It takes no memory.
 fn entry(alloc: Global, bytes: &[u8]) -> Result<(u64, bool, &str), DecodeError<Infallible>>
     ensures { IfErr result (LacksMemoryIf false) }
 {
     from_slice(alloc, bytes)
 }
 
-/// A text, which is lent.
+/// Reads a text, which is lent.
 fn text(alloc: Global, bytes: &[u8]) -> Result<CowStr<'_>, DecodeError<Infallible>>
     ensures { IfOk result IsBorrowedStr }
 {

@@ -1,4 +1,4 @@
-//! Values of the types of the library, read, however the bytes come.
+//! Values of the library's types, read from each kind of reader.
 
 use dagcbor_testing::answers;
 use serde_ipld_dagcbor::{Bytes, Cid, IgnoredAny, Ipld, from_slice};
@@ -28,8 +28,8 @@ enum Type {
     HashedMap,
 }
 
-/// Fails where a read of the bytes as this type, however they come, answers anything but this, as
-/// text.
+/// Fails if reading the bytes as this type, from any kind of reader, gives a result other than
+/// `told`, as text.
 fn reads(alloc: Global, as_type: &Type, bytes: &[u8], told: &str) -> Result<(), Fail> {
     match as_type {
         Type::Bool => answers::<bool>(alloc, bytes, told),
@@ -70,7 +70,8 @@ const NUMBERS: &[(Type, &[u8], &str)] = &[
     (Type::I8, b"\x38\x80", r#"Err(CastOverflow { name: "i8" })"#),
 ];
 
-/// Numbers as byte strings after the tags 2 and 3: 1, -2, and those next to what a head can hold.
+/// Numbers as byte strings after the tags 2 and 3: 1, -2, and the first beyond what a head can
+/// hold.
 const BIG_NUMBERS: &[(Type, &[u8], &str)] = &[
     (
         Type::U128,
@@ -208,7 +209,7 @@ const PARTS: &[(Type, &[u8], &str)] = &[
         b"\xa2\x62aa\x01\x61b\x02",
         "Err(UnorderedKey)",
     ),
-    // What is skipped is read as strictly as what is kept.
+    // Skipped data is read as strictly as data that is kept.
     (Type::Ignored, b"\x82\x01\xa0", "Ok(IgnoredAny)"),
     (Type::Ignored, b"\xa2\x61a\x01\x61b\x05", "Ok(IgnoredAny)"),
     (
@@ -251,8 +252,8 @@ fn values_are_read_or_refused(rt: HostRuntime) -> Result<(), Fail> {
     Ok(())
 }
 
-/// Fails where a row's bytes, however they come, are not read as the type beside them, or refused,
-/// as is told there.
+/// Fails if reading a row's bytes as its type, from any kind of reader, gives a result other than
+/// the row's.
 fn each_is_read(alloc: Global, rows: &[(Type, &[u8], &str)]) -> Result<(), Fail> {
     for (as_type, bytes, told) in rows {
         reads(alloc, as_type, bytes, told)?;
@@ -260,7 +261,7 @@ fn each_is_read(alloc: Global, rows: &[(Type, &[u8], &str)]) -> Result<(), Fail>
     Ok(())
 }
 
-/// Numbers of each width, four by four.
+/// Numbers of each width, in groups of four.
 type Numbers = (
     (u8, u16, u32, u64),
     (usize, u128, i8, i16),
@@ -270,7 +271,7 @@ type Numbers = (
 const OF_NUMBERS: &[u8] =
     b"\x83\x84\x17\x19\xff\xff\x1a\x00\x01\x00\x00\x1b\xff\xff\xff\xff\xff\xff\xff\xff\x84\x00\x18\x18\x38\x7f\x39\x01\x2b\x84\x3a\x01\x67\x9e\x7c\x3b\x7f\xff\xff\xff\xff\xff\xff\xff\x20\x3b\xff\xff\xff\xff\xff\xff\xff\xff";
 
-/// Texts and bytes, what may be absent, and lists.
+/// Texts and bytes, values that may be absent, and lists.
 type Others = (
     (char, char, String, Bytes),
     (bool, (), Option<Option<u8>>, Option<u8>),

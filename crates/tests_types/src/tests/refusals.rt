@@ -1,5 +1,5 @@
-//! What is refused, and by which name, however the bytes come: also where they are skipped, or
-//! judged.
+//! What is rejected, and with which error, from each kind of reader: also if the bytes are skipped,
+//! or only validated.
 
 use dagcbor_testing::{Pieces, each_is_refused, is_refused};
 use serde_ipld_dagcbor::Deserializer;
@@ -142,7 +142,7 @@ fn refusals_name_their_cause(rt: HostRuntime) -> Result<(), Fail> {
     is_refused(rt.alloc(), &tags, told)
 }
 
-/// What begins no link, though it may begin an item.
+/// Bytes that do not begin a link, although they may begin an item.
 const NO_LINKS: &[(&[u8], &str)] = &[
     (
         b"\x42\xaf\xfe",
@@ -163,8 +163,8 @@ fn what_begins_no_link_is_refused(rt: HostRuntime) -> Result<(), Fail> {
     Ok(())
 }
 
-/// Fails where the bytes of a row, from a slice or from a reader that shows one byte a fill, are a
-/// link, or are refused otherwise than told beside them.
+/// Fails unless reading a link from each row's bytes is refused with the row's error, both from a
+/// slice and from a reader that shows one byte at a time.
 fn each_is_no_link(alloc: Global, rows: &[(&[u8], &str)]) -> Result<(), Fail> {
     for (input, told) in rows {
         let refusal = format!(in alloc; "Some({told})")?;
@@ -176,7 +176,7 @@ fn each_is_no_link(alloc: Global, rows: &[(&[u8], &str)]) -> Result<(), Fail> {
     Ok(())
 }
 
-/// Maps whose key is no text, and the byte with which the key begins.
+/// Maps whose key is not a text, and the first byte of the key.
 const NO_KEYS: &[(&[u8], u8)] = &[
     (b"\xa1\x01\x02", 1),
     (b"\xa1\x01\x18\x05", 1),

@@ -77,7 +77,7 @@ const TREES: &[(&[u8], &str)] = &[
         b"\xa3\x61\x61\x01\x61\x62\x02\x63\x61\x62\x63\x03",
         r#"Ok(Map({"a": Integer(1), "abc": Integer(3), "b": Integer(2)}))"#,
     ),
-    // What is said of three languages: 103 bytes.
+    // Properties of three languages: 103 bytes.
     (
         b"\xa3\x62js\x83\x6blightweight\x6binterpreted\x6fobject-oriented\x64rust\x83\x64safe\x6aconcurrent\x64fast\x66python\x83\x68powerful\x68friendly\x64open",
         r#"Ok(Map({"js": List([String("lightweight"), String("interpreted"), String("object-oriented")]), "python": List([String("powerful"), String("friendly"), String("open")]), "rust": List([String("safe"), String("concurrent"), String("fast")])}))"#,
@@ -94,7 +94,7 @@ fn trees_are_read_and_written(rt: HostRuntime) -> Result<(), Fail> {
     Ok(())
 }
 
-/// Pieces, what follows 127 of them, and the kind of the whole.
+/// The bytes that are repeated 127 times, the bytes after them, and the kind of the whole.
 const WITHIN: &[(&[u8], &[u8], &str)] = &[
     (b"\x81", b"\x80", "Ok(List)"),
     (b"\x81", b"\x00", "Ok(List)"),
@@ -110,12 +110,12 @@ fn what_is_within_the_steps_is_read(rt: HostRuntime) -> Result<(), Fail> {
         tells::<IgnoredAny>(alloc, &bytes, "Ok(IgnoredAny)")?;
         is_told(alloc, &check_slice(&bytes), kind)?;
     }
-    // The steps of 300 items come back.
+    // The steps of 300 items are given back.
     let nulls = b"\xf6".repeat(alloc, 300)?;
     is_written_again(alloc, &joined(alloc, &[b"\x99\x01\x2c", &nulls])?)
 }
 
-/// Pieces, and what follows 128 of them.
+/// The bytes that are repeated 128 times, and the bytes after them.
 const BEYOND: &[(&[u8], &[u8])] = &[
     (b"\x81", b"\x80"),
     (b"\x81", b"\x00"),
@@ -130,7 +130,7 @@ fn what_is_beyond_the_steps_is_refused(rt: HostRuntime) -> Result<(), Fail> {
         let bytes = nested(alloc, piece, 128, end)?;
         is_refused(alloc, &bytes, r#"DepthOverflow { name: "any" }"#)?;
     }
-    // A typed read counts lists alone.
+    // A typed read takes steps only for lists.
     let bytes = nested(alloc, b"\x81", 128, b"\x00")?;
     agree(from_slice::<Vec<Ipld>>(alloc, &bytes).is_ok(), true)
 }

@@ -1,4 +1,4 @@
-//! An album, written and read. The rows are spelled by a script that knows the rules alone.
+//! An album, written and read. A script that knows only the rules made the bytes of the rows.
 
 use dagcbor_testing::{BLUE_TOLD, DEMO_TOLD, each_answers};
 use std::alloc::{AllocError, Global};
@@ -68,7 +68,7 @@ fn albums_are_read(rt: HostRuntime) -> Result<(), Fail> {
         &[
             (BLUE, BLUE_TOLD),
             (UNDATED, DEMO_TOLD),
-            // A null is read as a field that is left out.
+            // A null is read as if the field were left out.
             (
                 b"\xa4\x64year\xf6\x65title\x64Demo\x66format\x64Tape\x66tracks\x80",
                 DEMO_TOLD,

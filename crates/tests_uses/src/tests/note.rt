@@ -1,4 +1,4 @@
-//! The note by hand of docs/TYPES.md.
+//! The note of docs/TYPES.md, whose code is written by hand.
 
 use dagcbor_testing::note_goes_both_ways;
 use std::test::Fail;

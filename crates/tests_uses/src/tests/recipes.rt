@@ -1,4 +1,5 @@
-//! An example of most calls that docs/TYPES.md lists, and those beside the calls, word for word.
+//! Examples of most calls that docs/TYPES.md lists. That page has them beside the calls, word for
+//! word.
 
 use serde_ipld_dagcbor::codec::DagCborCodec;
 use serde_ipld_dagcbor::{

@@ -97,7 +97,7 @@ fn a_mascot_goes_to_a_device_and_back(rt: HostRuntime) -> Result<(), Fail> {
     is_told(rt.alloc(), &back, FERRIS_TOLD)
 }
 
-/// A file, after the buffers of std.
+/// A file, through the buffers of std.
 #[test]
 fn a_mascot_goes_to_a_file_and_back(rt: HostRuntime) -> Result<(), Fail> {
     let ferris = ferris(rt.alloc())?;

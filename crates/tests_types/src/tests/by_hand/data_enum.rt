@@ -1,4 +1,4 @@
-//! An enum with a variant of each form that holds something.
+//! An enum with a variant of each form that holds data.
 
 ghost use Rattle.std.specs.Prelude.{Some, [], ◌∷◌, codes, pos, string_bytes, true};
 ghost use Rattle.serde_ipld_dagcbor.specs.Tree.{boolean, integer, text, list_tree, entries_tree};

@@ -18,7 +18,7 @@ pub(crate) struct MyStruct {
     pub(crate) data: bool,
 }
 
-/// Field by field, so that the calls below `write_struct` stay tried.
+/// Written field by field, so that the calls that `write_struct` makes stay tested.
 impl Serialize for MyStruct {
     ghost tree = { λ p. entries_tree (field (codes "cid") (Some (link (cid_bytes p.cid)))
         ∷ field (codes "data") (Some (boolean p.data)) ∷ []) };

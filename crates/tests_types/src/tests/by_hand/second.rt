@@ -36,8 +36,9 @@ impl Serialize for Second {
     }
 }
 
-/// The variant `Data`. A match of one arm tells a proof nothing, so what is under it is a function.
-/// Field by field, so that the calls below `write_struct_variant` stay tried.
+/// Writes the variant `Data`. A proof learns nothing from a match of one arm, so the code of the
+/// arm is a function. It writes field by field, so that the calls that `write_struct_variant` makes
+/// stay tested.
 fn serialize_data<W: Write>(
     alloc: Global,
     b: u8,

@@ -1,4 +1,4 @@
-//! An enum whose variant is named by a field, for reading alone.
+//! An enum whose variant is named by a field. It is only read.
 
 ghost use Rattle.std.specs.Prelude.{ℕ, List};
 ghost use Rattle.serde_ipld_dagcbor.specs.Cid.{cid_bytes};

@@ -1,4 +1,4 @@
-//! The fields of a variant, by what their values are alone.
+//! Reading the fields of a variant, with a contract about their values alone.
 
 ghost use Rattle.dagcbor_read.specs.Deserializers.{AreOut, de_state, StaysFailed, Over};
 ghost use Rattle.dagcbor_read.specs.Enums.{enum_state, ReadsFieldsHeld};
@@ -10,7 +10,7 @@ use serde_ipld_dagcbor::{
 };
 use std::alloc::Global;
 
-/// As `read_struct_variant`, with the clauses from which an enum's law follows.
+/// Does what `read_struct_variant` does, with the clauses from which an enum's law follows.
 pub(crate) fn read_variant_fields<'de, F: Fields<'de>, R: Read>(
     alloc: Global,
     variant: EnumAccessor,

@@ -121,7 +121,7 @@ walk_on stored root name seen before waiting found lost waits m h = record {
     back q (inl s) = inl s
     back q (inr w) = inr (subst (Among q) (sym waits) (push_among q waiting name (inl w)))
 
--- of the names seen, those that are so were listed; and of one more
+-- one more name is seen, of which P does not hold, and the list stays
 lists_same : (P : CidParts → Type 0) (name : CidParts) (seen more listed new : List CidParts) → ((q : CidParts) → Among q more ↔ (Among q seen ⊎ (q ≡ name))) → (P name → ⊥) → new ≡ listed → Lists (λ q. Among q seen × P q) listed → Lists (λ q. Among q more × P q) new
 lists_same P name seen more listed new sees other same h = record {
   all = λ q. (

@@ -64,7 +64,7 @@ within_cid (suc n) start form c w = within_cid n w.1 form (block_links_are_cids 
 pub reached_cid : (codec : ℕ) (b : List ℕ) (links : List (List ℕ)) (form : List ℕ) → HasLinks codec b links → IsReached form links → IsCid form
 reached_cid codec b links form h r = within_cid r.1 r.0 form (block_links_are_cids codec b links r.0 h r.2) r.3
 
--- what is reached from CIDs is one
+-- names that are reached from CIDs are CIDs
 pub reached_of_cids : (cs : List CidParts) (form : List ℕ) → AllByRecursion AreCidParts cs → IsReached form (forms cs) → IsCid form
 reached_of_cids cs form all r = within_cid r.1 r.0 form (by cs all r.2) r.3
   where

@@ -249,7 +249,7 @@ module _ (key : EntryParts → ℕ) where
       ∙ (ap (λ rs. before_runs (key b) b (rs ++ tail)) first.2
       ∙ (before_joined (key b) b (key c, first.0) first.1 tail ∙ ap (λ rs. before_runs (key b) b rs ++ tail) (sym first.2)))
 
-  -- what is so of each entry of a run
+  -- the run has an entry, at most this many, and P holds of each
   pub record IsRunOf (P : EntryParts → Type 0) (most : ℕ) (r : Run) : Type 0 where
     pub some : 0 < length r.1
     pub few : length r.1 ≤ most

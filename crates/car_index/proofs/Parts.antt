@@ -14,7 +14,7 @@ joined_twice : (xs ys : List EntryParts) (f : Found) → joined xs (joined ys f)
 joined_twice xs ys (Ok t) = ap (λ es. Ok (record { entries = es; last = t.last; rest = t.rest })) (sym (append_assoc xs ys t.entries))
 joined_twice xs ys (Err e) = refl
 
--- some parts were taken, and so many are left
+-- some parts were taken, and n are left
 abbrev pub Mid : Found → Part → ℕ → List EntryParts → List EntryParts → Option ℕ → Option (List ℕ) → Type 0
 Mid whole part n old new last left = (rest : List ℕ) × (more : List EntryParts) × (left ≡ Some rest) × (new ≡ old ++ more) × (whole ≡ joined more (times n part last rest))
 

@@ -10,7 +10,7 @@ abbrev pub front_of : (EntryParts → ℕ) → ℕ → List EntryParts → ℕ
 front_of key n es = prefix_len (λ e. key e == n) es
 
 module _ (key : EntryParts → ℕ) where
-  -- the first run, and those after it, where it has so many entries after the first
+  -- the first run, and those after it, if it has n entries
   abbrev split_there : EntryParts → List EntryParts → ℕ → List Run
   split_there e es n = (key e, take n (e ∷ es)) ∷ runs key (drop n (e ∷ es))
 

@@ -82,7 +82,7 @@ names_more c old new a h q m = elim ((a.1 q).0 m) [ inl o ↦ h q o | inr e ↦ 
 abbrev IsLinkOf : List ℕ → Section → Type 0
 IsLinkOf form s = (links : List (List ℕ)) × IsVerified s × HasLinks s.0.codec s.1 links × IsReached form links
 
--- what is linked was linked before, or is by this section
+-- a link was a link before, or is one of this section
 linked_by : (form : List ℕ) (roots : List (List ℕ)) (sections : List Section) (s : Section) → IsLinkedFrom form roots (sections ++ s ∷ []) → IsLinkedFrom form roots sections ⊎ IsLinkOf form s
 linked_by form roots sections s (link, n, inl m, w) = inl (link, n, inl m, w)
 linked_by form roots sections s (link, n, inr l, w) = elim (among_push l.0 sections s l.2) [
@@ -190,7 +190,7 @@ block_taken s old mid new v (a, cut) (same, (links, block, joins)) roots section
     names : AreNames mid.held
     names = names_more s.0 old.held mid.held a h.names
 
--- where no link comes from the section, the links stay
+-- if the section has no links, the links stay the same
 links_stay : (s : Section) (roots : List (List ℕ)) (sections : List Section) (missing : CidSet) → ((links : List (List ℕ)) → IsVerified s → HasLinks s.0.codec s.1 links → ⊥)
     → ((form : List ℕ) → Among form (forms (members missing)) ↔ (IsLinkedFrom form roots sections × NamesNoneInFile form (sections ++ s ∷ [])))
     → (form : List ℕ) → Among form (forms (members missing)) ↔ (IsLinkedFrom form roots (sections ++ s ∷ []) × NamesNoneInFile form (sections ++ s ∷ []))
@@ -229,7 +229,7 @@ unnamed_taken s k none roots sections h = record {
   cids = h.cids;
 }
 
--- what is known is of the two sets alone
+-- the state depends on the two sets only
 known_same : (k j : CarCheck) (roots : List (List ℕ)) (sections : List Section) → j.held ≡ k.held → j.missing ≡ k.missing → IsAfter k roots sections → IsAfter j roots sections
 known_same k j roots sections held missing h = record {
   held = subst (λ x. (c : CidParts) → IsHeldName c x ↔ IsHeldInFile c sections) (sym held) h.held;

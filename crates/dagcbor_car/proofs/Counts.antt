@@ -9,7 +9,7 @@ use Rattle.dagcbor_car.specs.declared.error.CarError.{CarError}
 use Rattle.dagcbor_car.specs.declared.error.CarError.TheVariants.{Truncated, InvalidLength, InvalidCid}
 use Rattle.dagcbor_car.proofs.Cars.{counted_unique}
 
--- ---- what is counted
+-- ---- a length and its bytes
 
 begins : (b inner rest : List ℕ) → SplitsCounted b inner rest → b ≡ varint (length inner) ++ (inner ++ rest)
 begins b inner rest h = h.1 ∙ append_assoc (varint (length inner)) inner rest
@@ -49,7 +49,7 @@ no_section_named E f b body rest h none = (λ s more k. by s more k, (body, rest
         let same = counted_unique body (section_body s) rest more h.0 k.0.1 (sym h.1 ∙ k.1) in
         none.0 s.0 s.1 (k.0.0, same.0)
 
--- the name and the block of what is counted
+-- the name and the block in the bytes of a section
 pub section_found : (b body rest block : List ℕ) (s : Section) → s.1 ≡ block → SplitsCounted b body rest → BeginsWithCid body s.0 block → SplitsSection b s rest
 section_found b body rest block s same h c =
     let whole : body ≡ section_body s = c.1 ∙ ap (λ x. section_body (s.0, x)) (sym same) in

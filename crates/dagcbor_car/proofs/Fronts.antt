@@ -1,4 +1,4 @@
--- A CID at the front of bytes, and why there is none.
+-- A CID at the front of bytes, and why it is not there.
 use Rattle.std.proofs.Common.{◌≡◌, inl, inr, ℕ, ◌+◌, ◌^◌, ◌<◌, ◌≤◌, List, [], ◌∷◌, ◌++◌, take, drop, length, length-append, refl, sym, ap, ◌∙◌, arith, append-nil, length-take-le, take-append-drop}
 use Rattle.ipld_tree.specs.Cid.{varint, CidParts, cid_parts, AreCidParts, cid_bytes}
 use Rattle.ipld_tree.specs.CidFault.{HasVarints, IsFault, IsVarintFault}

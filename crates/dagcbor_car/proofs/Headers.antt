@@ -18,7 +18,7 @@ use Rattle.dagcbor_decode.proofs.Laws.{refused_no_block}
 use Rattle.dagcbor_car.proofs.Cars.{counted_unique, links_of_header}
 use Rattle.dagcbor_car.proofs.Counts.{no_counted}
 
--- ---- what is written of the roots
+-- ---- the encoded roots
 
 all_links : (cs : List CidParts) → all_some (map (λ c. Some (link (cid_bytes c))) cs) ≡ Some (map link (forms cs))
 all_links [] = refl

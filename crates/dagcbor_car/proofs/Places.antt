@@ -42,7 +42,7 @@ front_more b rest behind roots ss s h k = record {
 whole_car : (b rest : List ℕ) (roots : List (List ℕ)) (ss : List Section) → rest ≡ [] → IsCarFront b roots ss rest → IsCar b roots ss
 whole_car b rest roots ss none h = record { header = h.header; all = h.all; is = h.is ∙ ap (λ r. car_bytes roots ss ++ r) none ∙ append-nil (car_bytes roots ss) }
 
--- ---- what is no file
+-- ---- bytes that are not a file
 
 -- after the same sections stand others
 pub others_behind : (ss ts : List Section) (rest : List ℕ) → AllByRecursion IsSection ss → AllByRecursion IsSection ts → flat_map section_bytes ss ++ rest ≡ flat_map section_bytes ts
@@ -113,7 +113,7 @@ place_none e b rest roots ss extent h r others ts file =
 pub place_front : (b rest : List ℕ) (roots : List (List ℕ)) (ss : List Section) (extent : Option ℕ) → IsPlace b roots ss extent rest → IsFileFront b roots ss (wanting extent rest) (bytes_within extent rest)
 place_front b rest roots ss extent h = (h.car, h.inside, h.front)
 
--- at the end of a file nothing of it is left, nor wanting
+-- at the end of a file none of its bytes is left or missing
 pub ended : (extent more : Option ℕ) (mid now : Reading) (rest : List ℕ) → EndsThere extent mid more now → mid.left ≡ Some rest → (bytes_within extent rest ≡ []) × (wanting extent rest ≡ 0) × (now.left ≡ Some rest)
 ended None more mid now rest h l = (h.0.none_left rest l, refl, h.0.kept rest l)
 ended (Some n) more mid now rest h l = (ap (λ k. take k rest) h.0, omega (arith, h.0), ap (λ r. r.left) h.1 ∙ l)

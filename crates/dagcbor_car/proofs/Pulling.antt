@@ -41,7 +41,7 @@ refused_off stands stands' {x} {y} {front} {old} {mid} new e t f r = (r.0 ∙ t.
 
 -- ---- a length
 
--- so many bytes of a varint were taken, and more of it are to come
+-- n bytes of a varint were taken, and more of it are to come
 pub record IsInVarint (groups : List ℕ) (n : ℕ) (x : Option ℕ) (old : Reading) (y : Option ℕ) (now : Reading) : Type 0 where
   pub counted : length groups ≡ n
   pub takes : TakesOff x old groups y now
@@ -127,7 +127,7 @@ no_more_groups {x} {y} {old} {now} {groups} h ten =
     let w = h.cut in
     omega (arith, ten, h.counted, w.3, ap length w.4, length-append groups w.1, varint_length w.0)
 
--- ---- what is counted
+-- ---- a length and its bytes
 
 pub counted_pulled : {C E : Type 0} (bytes : C → List ℕ) (r : Result C (CarError E)) (n : ℕ) (x y z : Option ℕ) (old mid new : Reading) → n < 2 ^ 64 → TakesOff x old (varint n) y mid
     → MatchResult r (λ c. (length (bytes c) ≡ n) × TakesOff y mid (bytes c) z new) (λ e. CarRefuses (IsShort n) (of_file y mid) e new)
@@ -146,7 +146,7 @@ pub counted_sized : {C E : Type 0} (bytes : C → List ℕ) (r : Result C (CarEr
 counted_sized bytes (Ok c) n y z old mid new first h most = counted_most (bytes c) n old mid new h.0 first most
 counted_sized bytes (Err e) n y z old mid new first h most = tt
 
--- ---- want of memory
+-- ---- out of memory
 
 pub lacks_more : {U E : Type 0} (T : Type 0) (P Q : Type 0) (r : Result U (CarError E)) (e : CarError E) → IsErrAnd r (λ y. y ≡ e) → (P → Q) → LacksMemoryIf {T = T} P (Err e) → LacksMemoryIf Q r
 lacks_more T P Q (Ok v) e h f l = absurd h
@@ -160,7 +160,7 @@ varint_some : (n : ℕ) → 1 ≤ length (varint n)
 unfolding varint
 varint_some n = elim (cases_lt n 128) [ inl h ↦ omega (arith, ap length (one_group 9 n h)) | inr h ↦ omega (arith, ap length (more_groups 9 n h)) ]
 
--- after a length memory may be wanting for what it counts
+-- after a length, memory may run out for the bytes that it counts
 pub counted_lacks : {T E : Type 0} (r : Result T (CarError E)) (n : ℕ) {x y : Option ℕ} {old mid : Reading} → TakesOff x old (varint n) y mid → LacksMemoryIf (mid.lends ≡ false) r → LacksMemoryIf (SectionLacks (of_file x old)) r
 counted_lacks (Ok v) n {x} {y} {old} {mid} t l = tt
 counted_lacks (Err OutOfMemory) n {x} {y} {old} {mid} t l = (sym t.takes.same.lends ∙ l, λ e. let w = (off_within t).taken [] e in omega (arith, ap length w.1, length-append (varint n) w.0, varint_some n))

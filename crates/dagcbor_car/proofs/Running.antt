@@ -41,7 +41,7 @@ why (Read f) extent rest old new b l n = inl tt
 why OutOfMemory extent rest old new b l n = inl (n.memory.0, λ none. n.memory.1 (ap (option_map (bytes_within extent)) l ∙ ap Some none))
 why e extent rest old new b l n = inr (n.taken.1 b l)
 
--- what is left of a file that ends
+-- the bytes left of a file that ends
 none_left : (extent rest : Option ℕ) (old new : Reading) (b : List ℕ) → EndsThere extent old rest new → old.left ≡ Some b → (bytes_within extent b ≡ []) × (wanting extent b ≡ 0)
 none_left None rest old new b h l = (h.0.none_left b l, refl)
 none_left (Some n) rest old new b h l = (ap (λ k. take k b) h.0, omega (arith, h.0))

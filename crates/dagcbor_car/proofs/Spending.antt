@@ -11,7 +11,7 @@ use Rattle.dagcbor_car.specs.Steps.{ExceedsExtent}
 use Rattle.dagcbor_car.specs.declared.error.CarError.{CarError}
 use Rattle.dagcbor_car.specs.declared.error.CarError.TheVariants.{Read, Truncated, OutOfMemory}
 
--- ---- what is left of the file
+-- ---- the bytes left of the file
 
 -- known bytes of the file are those of known bytes
 pub known : (x : Option ℕ) (o : Option (List ℕ)) (c : List ℕ) → option_map (bytes_within x) o ≡ Some c → (b : List ℕ) × (o ≡ Some b) × (c ≡ bytes_within x b)
@@ -35,7 +35,7 @@ wanting_behind (Some n) (Some m) front rest e =
     let h : n ≡ m + length front = cc e in
     omega (arith, h, length-append front rest)
 
--- ---- what is spent
+-- ---- spent bytes
 
 pub spends_none : (x : Option ℕ) → Spends x 0 x
 spends_none None = refl
@@ -97,13 +97,13 @@ left_within x y n {old} {new} now e most k same = record {
       omega (arith, k.most w.0 w.1, most, same, within_few x y n w.0 e, ap length w.2);
 }
 
--- ---- what is refused
+-- ---- refusals
 
 pub within_le : (x : Option ℕ) (b : List ℕ) → length (bytes_within x b) ≤ length b
 within_le None b = omega arith
 within_le (Some n) b = omega (arith, length-take n b)
 
--- what is short of the bytes left is short of those of the file
+-- fewer than n bytes left means fewer than n of the file
 pub short_within : {E : Type 0} (x : Option ℕ) (n : ℕ) (old new : Reading) (e : CarError E) → CarRefuses (IsShort n) old e new → CarRefuses (IsShort n) (of_file x old) e new
 short_within x n old new (Read f) r = r
 short_within x n old new OutOfMemory r = r

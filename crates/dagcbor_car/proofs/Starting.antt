@@ -181,7 +181,7 @@ pub start_all : (front rest : List ℕ) (roots : List (List ℕ)) (x : Option �
 start_all front rest roots x header (inl h) e v = header_version roots rest header (subst (λ f. IsVersion2 (f ++ rest)) h.0 v)
 start_all front rest roots x header (inr h) e v = let clash = h.1.3 ∙ ap (option_map (λ m. m + length (header_bytes roots))) e in absurd (cc clash)
 
--- where no span is told, none is there
+-- if the bytes do not say where the file of version 1 is, they hold none
 pub no_span : {E : Type 0} (e : CarError E) (b : List ℕ) → SpanFault e b → (car : List ℕ) → HoldsCar b car 0 → ⊥
 no_span e b f car (inl h) = h.0 (version e f)
   where
@@ -196,9 +196,9 @@ no_span e b f car (inr h) = by e f
     by InvalidOffset f = elim f.2 [ inl low ↦ omega (arith, low, h.0.begin) | inr high ↦ omega (arith, high, h.0.end) ]
     by _ f = f
 
--- ---- what is skipped
+-- ---- skipped bytes
 
--- some of so many bytes were taken, and the others are to come
+-- of `count` bytes some were taken, and `more` are to come
 pub record IsSkipping (count more : ℕ) (old now : Reading) : Type 0 where
   pub bytes : List ℕ
   pub counted : length bytes + more ≡ count
@@ -225,7 +225,7 @@ lent_looked {n} {bytes} {old} {new} long t looked none = record {
 
 -- ---- after the bytes that begin version 2
 
--- what is there of the file of version 1
+-- the bytes that are there of the file of version 1
 span_holds : (front rest : List ℕ) (n : ℕ) → HasSpan (pragma ++ front) → 11 + length front ≡ begin_of (pragma ++ front) → n ≡ length_of (pragma ++ front) → HoldsCar (pragma ++ (front ++ rest)) (take n rest) (n - length (take n rest))
 span_holds front rest n h begins long = inr (span_on (pragma ++ front) rest h, is, ap (λ m. m - length (take n rest)) (long ∙ sym same))
   where
@@ -337,7 +337,7 @@ enclosed_block n inner {y} {old} {mid} {new} h fits t has lent b l =
 
 -- ---- the start of a file
 
--- what is tested is not so
+-- if the test fails, the property does not hold
 pub is_other : (b : Bool) (P : Type 0) → IsTrue b ↔ P → b ≡ false → P → ⊥
 is_other b P test other p = let clash = sym (test.1 p) ∙ other in absurd (cc clash)
 

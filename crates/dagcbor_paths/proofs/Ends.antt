@@ -92,7 +92,7 @@ link_told b old new (Err e) l h = λ t k cid is.
 
 -- ---- the walk
 
--- what is known of it
+-- the walk has come to these bytes, with these segments left
 abbrev pub Walks : List ℕ → List (List ℕ) → List ℕ → List (List ℕ) → Type 0
 Walks b path at left = (t : Tree) → BeginsWithTree b t → (u : Tree) × Walked t path left u at
 

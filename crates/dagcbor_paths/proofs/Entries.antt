@@ -29,7 +29,7 @@ no_key_from key k u t es well before (inr more) = never_below key (key_cmp_total
 
 -- ---- the loop
 
--- of the entries that stand there, those to come are left, and the key is theirs where it is one
+-- `to_come` of the entries are left, and they have the value of the key, if any entry does
 pub record KeysPassed (b : List ℕ) (count to_come : ℕ) (key now : List ℕ) : Type 0 where
   left : (es : Entries) (rest : List ℕ) → AreEntryFronts b es rest → entry_count es ≡ count → entries_need es ≤ 256
       → (fs : Entries) × (entry_count fs ≡ to_come) × AreEntryFronts now fs rest × (entries_need fs ≤ 256) × ((t : Tree) → IsValueOf key fs t → IsValueOf key es t) × ((t : Tree) → IsValueOf key es t → IsValueOf key fs t)

@@ -31,9 +31,9 @@ read_as_one name b x y (inl h) (inr k) = absurd (omega (arith, h.0, k.0))
 read_as_one name b x y (inr h) (inl k) = absurd (omega (arith, h.0, k.0))
 read_as_one name b x y (inr h) (inr k) = one_block x y k.1.0 (subst (IsBlock x) (model_unique b h.1.0 k.1.0 h.1.1 k.1.1) h.1.2) k.1.2
 
--- ---- what is not read
+-- ---- bytes that are not read
 
--- what is refused is not read
+-- bytes with a verdict of no block are not read as a block
 pub none_read : (name : CidParts) (b block : List ℕ) (t : Tree) (v : Verdict) → IsVerified (name, b) → IsReadAs name b block → IsBlock block t → IsVerdict (name, b) v → IsNoBlock v → ⊥
 none_read name b block t (Block kind) h r k v none = none
 none_read name b block t Node h r k v none = none

@@ -60,7 +60,7 @@ within_cid : (n : ℕ) (start form : List ℕ) → IsCid start → IsLinkWithin 
 within_cid zero start form c e = subst IsCid (sym e) c
 within_cid (suc n) start form c w = within_cid n w.1 form (block_links_are_cids w.2.0.codec w.2.0.digest w.0 w.1 w.2.4 w.3) w.4
 
--- what is reached from the links of a block is a CID
+-- a binary form that is reached from the links of a block is that of a CID
 pub reached_cid : (codec : ℕ) (b : List ℕ) (links : List (List ℕ)) (form : List ℕ) → HasLinks codec b links → IsReached form links → IsCid form
 reached_cid codec b links form h r = within_cid r.1 r.0 form (block_links_are_cids codec b links r.0 h r.2) r.3
 
@@ -190,7 +190,7 @@ all_done cids i held old new all h = subst (λ cs. AddsAll cs held old new) (ap 
 
 -- ---- the links of a block
 
--- these links before what is left of a block were added
+-- the names reached from the links before the rest of a block were added
 abbrev pub Adding : ℕ → List ℕ → HeldNames → CidSet → CidSet → List ℕ → Type 0
 Adding codec b held old now rest = (found : List CidParts) × LinksSoFar codec b found rest × AddsAll found held old now
 

@@ -13,7 +13,7 @@ use Rattle.dag_pb.specs.Causes.{StopsIn}
 use Rattle.dag_pb.proofs.Varints.{one_varint}
 use Rattle.dag_pb.proofs.Stopping.{stops_behind}
 
--- ---- what stands first
+-- ---- the field at the front
 
 pub none_in_nothing : BeginsNoVarint []
 none_in_nothing n rest (form, v, e) = by form v.groups e

@@ -125,7 +125,7 @@ row_parts b (f ∷ fs) rest (c, h, k) =
     let t = row_parts c fs rest k in
     (s.0 ++ t.0, s.1 ∙ ap (λ x. s.0 ++ x) t.1 ∙ sym (append_assoc s.0 t.0 rest))
 
--- what a row begins with, and what is left of it
+-- if a row begins with these fields, the rest of it is left
 pub row_left : (b : List ℕ) (fs gs : List Field) (rest : List ℕ) → BeginsWithFields b fs rest → BeginsWithFields b gs [] → (hs : List Field) × (gs ≡ fs ++ hs) × BeginsWithFields rest hs []
 row_left b [] gs rest e k = (gs, refl, subst (λ x. BeginsWithFields x gs []) e k)
 row_left b (f ∷ fs) [] rest (c, h, i) k = absurd (field_there b f c h k)

@@ -49,7 +49,7 @@ one_varint b m n x y (s, p, e) (t, q, f) =
     let same = one_form s t x y p.groups q.groups (sym e ∙ f) in
     (p.number ∙ ap number_of same.0 ∙ sym q.number, same.1)
 
--- after groups with the high bit stands what is left of a form
+-- after groups with the high bit, the rest of a form is left
 pub form_left : (xs t y z : List ℕ) → AreOpen xs → AreGroups t → t ++ y ≡ xs ++ z → (u : List ℕ) × (t ≡ xs ++ u) × AreGroups u × (u ++ y ≡ z)
 form_left [] t y z high_bits h e = (t, refl, h, e)
 form_left (x ∷ xs) [] y z high_bits h e = absurd h
@@ -60,7 +60,7 @@ form_left (x ∷ xs) (a ∷ c ∷ t) y z high_bits h e =
     let first : a ≡ x = cc e in
     (k.0, (λ i. first i ∷ k.1 i), k.2, k.3)
 
--- no count stands first where no number does
+-- bytes that begin with no number begin with no counted bytes either
 pub none_counted : (b : List ℕ) → BeginsNoVarint b → BeginsNoCounted b
 none_counted b none inner rest h = none (length inner) (inner ++ rest) h
 
@@ -242,6 +242,6 @@ sum_fits bytes i number unit group bits r low byte is = by (cases_eq i 9)
         let bound = r.below in
         omega (arith, most, part, bound)
 
--- none whatever follows: none where nothing does
+-- if no number begins whatever follows, no number begins if nothing follows
 pub none_alone : (b : List ℕ) → ((more : List ℕ) → BeginsNoVarint (b ++ more)) → BeginsNoVarint b
 none_alone b none n rest h = none [] n rest (subst (λ x. BeginsWithVarint x n rest) (sym (append-nil b)) h)

@@ -71,7 +71,7 @@ node_data row node (inr e) = ap (data_with None) e ∙ data_first node.«data» 
 abbrev AreTexts : List LinkParts → Type 0
 AreTexts ls = AllByRecursion (λ l. IfSome l.name IsUtf8) ls
 
--- what was found and what is left are the node
+-- the measured fields and those that are left are the node
 pub record MeasuredTo (b rest : List ℕ) (m : Measure) : Type 0 where
   pub node : NodeParts
   pub row : List Field

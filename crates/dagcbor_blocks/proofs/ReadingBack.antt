@@ -62,7 +62,7 @@ among_mid : {X : Type 0} (xs : List X) (x : X) (ys : List X) → Among x (xs ++ 
 among_mid [] x ys = inl refl
 among_mid (z ∷ zs) x ys = inr (among_mid zs x ys)
 
--- what is held is a block under its name
+-- a stored block is sound under its name
 held_named : (es : List BlockEntry) (s : Section) → AllByRecursion IsSoundEntry es → Among s (shown es) → IsSound s
 held_named es s sound m =
     let e = map_among (λ (e : BlockEntry). (e.0, e.1.items)) s es m in
@@ -90,7 +90,7 @@ module _ (roots : List (List ℕ)) (blocks ss after : Held) (s : Section) (finds
 
 -- ---- no refusal of the file
 
--- where no cause stands only want of memory is told
+-- if no cause can hold, a refusal is out of memory
 begins_for_memory : (old new : Reading) (b : List ℕ) (roots : List (List ℕ)) (blocks after : Held) → old.left ≡ Some b → ((c : CarError Infallible) → RefusesStart c b → ⊥) → (c : CarError Infallible) → CarRefuses RefusesStart old c new → IsFilledBack roots blocks (Err (stop.Header c)) after
 begins_for_memory old new b roots blocks after l never (car.Read f) r = elim f [ ]
 begins_for_memory old new b roots blocks after l never car.OutOfMemory r = tt

@@ -17,7 +17,7 @@ cid_unique law c d p q e = same_cid c d (is_equal (cid_cmp c d) ((law c d p q).1
 pub whole_front : {b : List ℕ} {t : Tree} → IsSpelling b t → IsFront b t []
 whole_front {b} {t} h = record { well_formed = h.well_formed; spellable = h.spellable; is = h.is ∙ sym (append-nil (spelling t)) }
 
--- what holds of an `Ok`, where there is one
+-- what holds of an `Ok`, if the result is one
 pub on_ok : {X Y : Type 0} (r : Result X Y) (P : Type 0) → false ≡ is_err r → OnOk r P → P
 on_ok (Ok x) P e h = h
 on_ok (Err y) P e h = absurd (cc e)

@@ -7,7 +7,7 @@ use Rattle.dag_pb.proofs.Orders.{node_links_in}
 use Rattle.unix_fs.specs.Reading.{HasRow}
 use Rattle.unix_fs.specs.Directories.{has_name, link_named}
 
--- what is left has the first link of the name, if there is one
+-- the links that are left have the first link with the name, if there is one
 pub record IsSearchedTo (name block links : List ℕ) : Type 0 where
   pub row : HasRow links
   pub same : (all : List Field) → BeginsWithFields block all [] → (more : List Field) × BeginsWithFields links more []

@@ -49,7 +49,7 @@ group_below (suc more) group n fit high below = omega (arith, subst (λ k. n < 2
 pub fits_below : (more n : ℕ) → more ≤ 9 → n < 2 * 128 ^ more → n < 2 ^ 64
 fits_below more n few below = omega (arith, below, pow-le-pow_right {n = 128} (omega arith) {i = more} {j = 9} few)
 
--- ---- what is left is shorter
+-- ---- the rest is shorter
 
 -- where both parts answer
 pub after_split : {A B : Type 0} (r : Front A) (f : A → List ℕ → Front B) (b : B) (left : List ℕ) → after r f ≡ Ok (b, left) → (a : A) × (rest : List ℕ) × (r ≡ Ok (a, rest)) × (f a rest ≡ Ok (b, left))

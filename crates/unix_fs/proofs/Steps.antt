@@ -71,7 +71,7 @@ unfolding said_from
 not_read message said [] cause r there e = absurd (there refl)
 not_read message said (x ∷ b) cause r there e = r.same ∙ ap (λ q. or_at message (x ∷ b) q (said_from message (length b))) e
 
--- ---- what stands in fields
+-- ---- picking from fields
 
 pub no_field : field_of [] ≡ Err Truncated
 unfolding field_of varint_of groups_of
@@ -105,7 +105,7 @@ unfolding found_in found_from
 none_found pick [] cause e = refl
 none_found pick (x ∷ b) cause e = ap (λ r. found_with pick r (found_from pick (length b))) e
 
--- ---- a walk over fields: what is picked of the rest is what is picked of all
+-- ---- a walk over fields: the rest gives the same as all fields
 
 pub record HasSame {A : Type 0} (pick : ℕ × Value → List A) (fields rest : List ℕ) : Type 0 where
   pub same : found_in pick fields ≡ found_in pick rest

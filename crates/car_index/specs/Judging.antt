@@ -25,8 +25,7 @@ abbrev pub wrong : Format → List EntryParts → List Placed → List EntryPart
 wrong f es ps = filter (λ e. not (is_entry_of (map (listed_as f) ps) e)) es
 
 -- ---- unordered: an entry whose multihash is below that of the entry before it. Look-ups bisect
--- the
--- digests of one width; hash codes and widths ascend in any index that is read.
+-- the digests of one width; hash codes and widths ascend in any index that is read.
 
 -- the order of entries by multihash: hash code, length of the digest, bytes of the digest
 abbrev pub multihash_cmp : EntryParts → EntryParts → Ordering

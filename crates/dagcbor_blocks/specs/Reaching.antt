@@ -20,7 +20,7 @@ stored blocks name = block_at name blocks
 abbrev pub MayLead : Held → CidParts → Type 0
 MayLead blocks name = (is_held name blocks ≡ true) ⊎ IsInline name
 
--- no block is stored under the name, which is not by the identity
+-- no block is stored under the name, and it is not by the identity
 abbrev pub IsNotHeld : Held → CidParts → Type 0
 IsNotHeld blocks name = (is_held name blocks ≡ false) × ¬ IsInline name
 

@@ -27,8 +27,9 @@ impl Blocks {
     /// `Input::Reader(IoReader::new(source))` for a source of std. One section of it is in memory
     /// at a time, besides the stored blocks.
     ///
-    /// Each block must be one that `put_block` accepts, of any codec. The first section that does
-    /// not, or that is no section, ends the call. The blocks before it stay stored.
+    /// Each block must be one that `put_block` accepts, of any codec. The first section whose block
+    /// is refused ends the call, and so do bytes that are not a section. The blocks stored before
+    /// stay.
     pub fn read_car<'de, R: Read>(
         &mut self,
         input: &mut Input<'de, R>,

@@ -24,7 +24,7 @@ stored_in blocks name = option_map (λ v. v.items) (get cid_cmp blocks name)
 abbrev pub IsThere : Stored → CidParts → Type 0
 IsThere stored name = is_some (stored name) ≡ true
 
--- nothing is stored under the name, which is not by the identity
+-- nothing is stored under the name, and it is not by the identity
 abbrev pub IsLost : Stored → CidParts → Type 0
 IsLost stored name = (stored name ≡ None) × ¬ IsInline name
 

@@ -39,17 +39,17 @@ IsReached form links = (link : List ℕ) × (n : ℕ) × Among link links × IsL
 abbrev pub IsReachedName : CidParts → List (List ℕ) → Type 0
 IsReachedName q links = AreCidParts q × ¬ IsInline q × IsReached (cid_bytes q) links
 
--- the new members are the old ones, and this CID, if it is not held
+-- the new members are the old ones, and this CID, if it is not in `held`
 abbrev pub AddsUnheld : CidParts → HeldNames → CidSet → CidSet → Type 0
 AddsUnheld c held old new = AreCidParts c
     × ((q : CidParts) → Among q (members new) ↔ (Among q (members old) ⊎ ((q ≡ c) × ¬ IsHeldName q held)))
 
--- the new members are the old ones, and the names that are reached from the links and are not held
+-- the new members are the old ones, and the names reached from the links that are not in `held`
 abbrev pub AddsReached : List (List ℕ) → HeldNames → CidSet → CidSet → Type 0
 AddsReached links held old new = (q : CidParts)
     → Among q (members new) ↔ (Among q (members old) ⊎ (IsReachedName q links × ¬ IsHeldName q held))
 
--- the links are CIDs, and the names reached from them that are not held became members
+-- the links are CIDs, and the names reached from them that are not in `held` became members
 abbrev pub AddsAll : List CidParts → HeldNames → CidSet → CidSet → Type 0
 AddsAll cids held old new = AllByRecursion AreCidParts cids × AddsReached (forms cids) held old new
 
@@ -63,7 +63,7 @@ abbrev pub AreFirstNames : List ℕ → List CidParts → Type 0
 AreFirstNames b names = (t : Tree) × (rest : List ℕ) × IsFront b t rest
     × (any_need t ≤ default_steps) × ListsReached names (links_of t)
 
--- the new members are the old ones, and the names reached from the links of the block and not held
+-- the new members are the old ones, and the names reached from the block's links, not in `held`
 abbrev pub AddsLinks : {E : Type 0} → ℕ → List ℕ → HeldNames → CidSet → Result (Unit {0}) E → CidSet
     → Type 0
 AddsLinks codec b held old result new = OnOk result

@@ -48,8 +48,8 @@ impl CidSet {
         self.cids.contains(cid)
     }
 
-    /// Adds the links of a block that are not held. A link whose name holds its block itself is
-    /// replaced by the links in that block.
+    /// Adds the links of a block that are not in `held`. A link whose name holds its block itself
+    /// is replaced by the links in that block.
     #[cycle(links)]
     pub fn add_links(
         &mut self,
@@ -68,8 +68,8 @@ impl CidSet {
         Ok(())
     }
 
-    /// Adds the links that are not held. A link whose name holds its block itself is replaced by
-    /// the links in that block.
+    /// Adds the links that are not in `held`. A link whose name holds its block itself is replaced
+    /// by the links in that block.
     pub fn add_all(&mut self, links: &[Cid], held: &HeldNames) -> Result<(), AllocError>
         ensures added { OnOk result (AddsAll links.now held.now self.old self.new) }
         ensures memory { OnErr result (links.now ≢ []) }
@@ -80,8 +80,8 @@ impl CidSet {
         Ok(())
     }
 
-    /// Adds the link, if it is not held. If its name holds a block itself, adds the links in that
-    /// block instead.
+    /// Adds the link, if it is not in `held`. If its name holds a block itself, adds the links in
+    /// that block instead.
     #[cycle(links)]
     fn add_link(&mut self, link: &Cid, held: &HeldNames) -> Result<(), AllocError>
         ensures { OnOk result (AddsAll (link.now ∷ []) held.now self.old self.new) }
@@ -104,7 +104,7 @@ impl CidSet {
         self.cids.remove(cid);
     }
 
-    /// Adds the CID, if it is not held.
+    /// Adds the CID, if it is not in `held`.
     fn add_unheld(&mut self, cid: &Cid, held: &HeldNames) -> Result<(), AllocError>
         ensures { OnOk result (AddsUnheld cid.now held.now self.old self.new) }
     {

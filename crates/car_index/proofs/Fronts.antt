@@ -1,4 +1,4 @@
--- What stands at a place of an index.
+-- The parts at a place of an index.
 use Rattle.std.proofs.Common.{◌≡◌, ℕ, ◌+◌, ◌*◌, ◌/◌, ◌^◌, ◌<◌, ◌≤◌, ◌==◌, ◌&&◌, ltb, cond, List, [], ◌∷◌, ◌++◌, length, take, drop, Option, None, Some, option_and_then, sym, ap, ◌∙◌, subst, refl, arith, append_assoc, flat_map, length-append}
 use Rattle.std.proofs.lemmas.Bool.{lt-ltb, le-leb, eq-eqb, ne_eqb}
 use Rattle.std.proofs.lemmas.List.{drop-drop, length-drop}
@@ -67,7 +67,7 @@ entries_long w (e ∷ es) h =
 abbrev pub bucket_there : ℕ → Run → Bucket
 bucket_there p r = record { begin = p + 12; width = r.0; count = length r.1 }
 
--- the head of a run, its entries, and what follows them
+-- the head of a run, its entries, and the bytes after them
 pub record IsRunAt (b rest : List ℕ) (p : ℕ) (r : Run) : Type 0 where
   pub head : bucket_at b p ≡ Some (bucket_there p r, (p + 12) + r.0 * length r.1)
   pub entries : drop (p + 12) b ≡ flat_map entry_bytes r.1 ++ rest
@@ -99,7 +99,7 @@ run_front b rest p r fits run is =
         ∙ (ap (λ v. cond v (Some (record { begin = begin; width = width; count = long / width }, begin + long)) None) (lt-ltb (begin + long) (2 ^ 64) ends)
         ∙ ap (λ n. Some (record { begin = begin; width = width; count = n }, begin + long)) is)
 
--- what follows all runs
+-- the place and the bytes after all runs
 pub runs_behind : (b rest : List ℕ) (p : ℕ) (rs : List Run) → length b < 2 ^ 64 → AllByRecursion IsWidthRun rs → drop p b ≡ flat_map bucket_bytes rs ++ rest → (q : ℕ) × (after_heads b (length rs) p ≡ Some q) × (drop q b ≡ rest)
 runs_behind b rest p [] fits each is = (p, refl, is)
 runs_behind b rest p (r ∷ rs) fits each is =

@@ -48,7 +48,7 @@ code_runs es few room = each_map (runs hash_code_of es) (runs_so hash_code_of Ha
 -- ---- the entries of a bucket
 
 module _ (b : List ℕ) (w : ℕ) (es : List EntryParts) (found : Option Bucket) (h : FindsRun b (w, es) found) (wide : AllByRecursion (λ e. width_of e ≡ w) es) where
-  -- an entry stands at its place
+  -- the bytes at an entry's place begin with the entry
   entry_stands : (n : ℕ) (k : Parted es n) → drop (entry_place h.bucket n) b ≡ entry_bytes k.at ++ (flat_map entry_bytes k.behind ++ h.rest)
   entry_stands n k =
       let parts : flat_map entry_bytes es ≡ flat_map entry_bytes k.before ++ (entry_bytes k.at ++ flat_map entry_bytes k.behind) =
@@ -104,7 +104,7 @@ equal_only Less h = absurd (omega (arith, h))
 equal_only Equal h = refl
 equal_only Greater h = absurd (omega (arith, h))
 
--- an element of two lists stands in one of them
+-- an element of the second list, by its place in both together
 abbrev shifted : {X : Type 0} (xs ys : List X) (n m : ℕ) → n ≡ length xs + m → Parted ys m → Parted (xs ++ ys) n
 shifted xs ys n m is k = record { before = xs ++ k.before; at = k.at; behind = k.behind; is = ap (λ l. xs ++ l) k.is ∙ sym (append_assoc xs k.before (k.at ∷ k.behind)); long = omega (arith, length-append xs k.before, k.long, is) }
 
@@ -115,7 +115,7 @@ abbrev moved : {X : Type 0} (xs ys : List X) (n : ℕ) → xs ≡ ys → Parted 
 moved xs ys n same k = record { before = k.before; at = k.at; behind = k.behind; is = same ∙ k.is; long = k.long }
 
 module _ (b : List ℕ) (w : ℕ) (es : List EntryParts) (found : Option Bucket) (h : FindsRun b (w, es) found) (wide : AllByRecursion (λ e. width_of e ≡ w) es) (room : AllByRecursion HasRoom es) (digest : List ℕ) (is : length digest + 8 ≡ w) (t : InThree (rank digest) 1 es) where
-  -- the first entry of the digest stands after those below it
+  -- the first entry of the digest comes after those below it
   first_there : (n : ℕ) → IsFirst b h.bucket digest n → n ≡ length t.below
   first_there n f = elim (cases_lt n (length t.below)) [
     | inl less ↦ too_low less
@@ -161,7 +161,7 @@ module _ (b : List ℕ) (w : ℕ) (es : List EntryParts) (found : Option Bucket)
         offset = entry_offset b w es found h wide (n + m) (length digest) at is (each_at HasRoom es (n + m) at room).2;
       }
 
--- ---- where an entry stands among those of its multihash
+-- ---- the place of an entry among those of its multihash
 
 -- an element that is so, after ones that are not
 not_among : {X : Type 0} (P : X → Type 0) (xs ys : List X) (x : X) → x ∷ xs ≡ ys → P x → AllByRecursion (λ y. P y → ⊥) ys → ⊥

@@ -1,4 +1,4 @@
--- What is looked up in an index.
+-- Look-ups in an index.
 use Rattle.std.proofs.Common.{◌≡◌, ℕ, suc, ◌+◌, ◌-◌, ◌^◌, ◌<◌, ◌≤◌, min, true, false, cond, List, length, take, drop, Option, None, Some, option_and_then, IfSome, Result, Ok, Err, IfOk, ◌==◌, sym, ap, ◌∙◌, subst, refl, inl, inr, arith}
 use Rattle.std.proofs.lemmas.Bool.{lt-ltb, le-ltb, cases_lt, eq-eqb, ne_eqb}
 use Rattle.std.proofs.lemmas.List.{drop_all}

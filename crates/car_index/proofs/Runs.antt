@@ -5,7 +5,7 @@ use Rattle.std.specs.List.{prefix_len, take_while}
 use Rattle.std.proofs.lemmas.List.Folds.{length-prefix_len}
 use Rattle.car_index.specs.Index.{EntryParts, Run, before_runs, runs}
 
--- how many entries of this key stand at the front
+-- how many entries at the front have this key
 abbrev pub front_of : (EntryParts → ℕ) → ℕ → List EntryParts → ℕ
 front_of key n es = prefix_len (λ e. key e == n) es
 

@@ -45,7 +45,7 @@ pub node_order : (fs : List Field) (node : NodeParts) → AreFieldsOf fs node �
 node_order fs node (inl e) = subst HasOrder (sym e) (links_first node.links node.«data»)
 node_order fs node (inr e) = subst HasOrder (sym e) (data_first node.links node.«data»)
 
--- ---- what has an order is a node
+-- ---- fields that have an order are a node
 
 nothing_behind : (fs : List Field) (o : Order) → orders (Some DataLast) fs ≡ Some o → fs ≡ []
 nothing_behind [] o e = refl

@@ -42,7 +42,7 @@ measured_form m parts n h e =
 
 -- ---- field by field
 
--- the last data of what was found and the fields after it
+-- the last data among those found and the fields after them
 abbrev pub data_with : Option (List ℕ) → List Field → Option (List ℕ)
 data_with found [] = found
 data_with found (link_field l ∷ more) = data_with found more

@@ -79,7 +79,7 @@ sorted_now ls l last sorted r e h named = by sorted (below (sort_name l) last) r
 
 -- ---- the walk
 
--- so much was read of the links that stand there
+-- the first links were read and measured, and `left` are left
 pub record Walked (all : List ℕ) (count left : ℕ) (rest : List ℕ) (size : ℕ) (sorted : Bool) (last : List ℕ) : Type 0 where
   pub done : List LinkParts
   pub counted : length done + left ≡ count

@@ -13,7 +13,7 @@ use Rattle.dag_pb_model.specs.Reading.{node_with, IsNodeFront, AreMeasured, IsMe
 use Rattle.dag_pb_model.proofs.Opening.{data_key, node_closed, node_block}
 use Rattle.dag_pb_model.proofs.Sizing.{varint_below}
 
--- ---- what was measured
+-- ---- the measure
 
 -- the data's field is no longer than its entry
 pub node_fits : (b : List ℕ) (inner : Option (List ℕ)) (count : ℕ) (rest : List ℕ) → IsNodeFront b inner count rest → IfSome inner (λ d. length d < 2 ^ 64) → length rest + length (data_field_bytes inner) ≤ length b

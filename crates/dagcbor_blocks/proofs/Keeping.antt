@@ -103,7 +103,7 @@ held_already name blocks b e q c = (inr, back)
     back (inl (inr m)) = absurd m
     back (inr o) = o
 
--- the bytes are found under the name, and under each other name what was found there
+-- the bytes are stored under the name; under other names nothing changes
 abbrev PutsUnder : CidParts → List ℕ → Held → Held → Type 0
 PutsUnder name b old new = (q : CidParts) → block_at q new ≡ cond (is_at (cid_cmp name) q) (Some b) (block_at q old)
 

@@ -98,7 +98,7 @@ read_whole roots ss extent more old mid new before held after h end same = recor
 
 -- ---- the sections, one by one
 
--- what taking a section does to a store
+-- the effect of taking a section on a store
 abbrev Keeps : SinkTakes Blocks PutBlockError
 Keeps s old result new = PutsBytes s (held_blocks old) result (held_blocks new)
 

@@ -1,4 +1,4 @@
--- What follows its length at the front of bytes, and a section there.
+-- A length and its bytes at the front, and a section there.
 use Rattle.std.proofs.Common.{◌≡◌, inl, inr, ℕ, List, [], ◌++◌, length, length-append, sym, ap, ◌∙◌, arith, append_assoc, append-nil}
 use Rattle.ipld_tree.specs.Cid.{varint}
 use Rattle.ipld_tree.specs.declared.cid_error.CidError.{CidError}
@@ -14,7 +14,7 @@ use Rattle.dagcbor_car.proofs.Cars.{counted_unique}
 begins : (b inner rest : List ℕ) → SplitsCounted b inner rest → b ≡ varint (length inner) ++ (inner ++ rest)
 begins b inner rest h = h.1 ∙ append_assoc (varint (length inner)) inner rest
 
--- where the fault stands, nothing follows its length
+-- if there is this fault, no length with its bytes is at the front
 pub no_counted : {E : Type 0} (e : CarError E) (b inner rest : List ℕ) → CountFault e b → SplitsCounted b inner rest → ⊥
 no_counted Truncated b inner rest (inl cut) h =
     let whole : varint (length inner) ++ ((inner ++ rest) ++ cut.1) ≡ varint cut.0 ++ [] =

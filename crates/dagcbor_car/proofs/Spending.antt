@@ -51,7 +51,7 @@ off_none x r = record { takes = nothing_taken r; spends = spends_none x }
 pub off_both : {x y z : Option ℕ} {old mid new : Reading} {a b : List ℕ} → TakesOff x old a y mid → TakesOff y mid b z new → TakesOff x old (a ++ b) z new
 off_both {x} {y} {z} {old} {mid} {new} {a} {b} h k = record { takes = takes_both h.takes k.takes; spends = subst (λ n. Spends x n z) (sym (length-append a b)) (spends_both x y z (length a) (length b) h.spends k.spends) }
 
--- of the file the same was taken
+-- bytes taken within the file are taken off the reader, seen as having the file only
 pub off_within : {x y : Option ℕ} {old new : Reading} {front : List ℕ} → TakesOff x old front y new → Takes (of_file x old) front (of_file y new)
 off_within {x} {y} {old} {new} {front} h = record {
   taken = λ c l.
@@ -61,7 +61,7 @@ off_within {x} {y} {old} {new} {front} h = record {
   same = record { steps = h.takes.same.steps; budget = h.takes.same.budget; lends = h.takes.same.lends; faults = h.takes.same.faults; through = h.takes.same.through };
 }
 
--- ---- what was looked at
+-- ---- looks at bytes
 
 within_few : (x y : Option ℕ) (n : ℕ) (b : List ℕ) → Spends x n y → min n (length b) ≤ length (bytes_within x b)
 within_few None y n b e = omega arith
@@ -70,7 +70,7 @@ within_few (Some m) (Some k) n b e =
     let h : m ≡ k + n = cc e in
     omega (arith, h, length-take m b)
 
--- looks at what was taken are looks at the file
+-- looks at the bytes taken are looks at the file
 pub taken_within : {x y : Option ℕ} {old new : Reading} {front : List ℕ} → TakesOff x old front y new → LooksAtMost (2 * length front) old new → old.looked ≤ new.looked → new.shown ≡ [] → LooksAtTaken 2 0 (of_file x old) (of_file y new)
 taken_within {x} {y} {old} {new} {front} h most grows none = record {
   grows = grows;

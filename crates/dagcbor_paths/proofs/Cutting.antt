@@ -6,7 +6,7 @@ use Rattle.std.specs.List.{slice_get}
 use Rattle.dagcbor_paths.specs.Paths.{onto_first, pieces, without_empty, segments}
 use Rattle.dagcbor_paths.specs.Parts.{EndsWith}
 
--- no slash stands in the text
+-- the text has no slash
 abbrev pub HasNoSlash : List ℕ → Type 0
 HasNoSlash s = (i : ℕ) → i < length s → get_or s i 0 ≢ 47
 

@@ -1,4 +1,4 @@
--- What is told where a walk ended.
+-- The answer at the end of a walk.
 use Rattle.std.proofs.Common.{Bor, rules, ◌≡◌, ◌≢◌, ℕ, ◌-◌, List, [], ◌∷◌, ◌++◌, length, take, refl, sym, ap, ◌∙◌, subst, arith, append_assoc, append-nil, length-append, Option, None, Some, MatchOption, Result, Ok, Err}
 use Rattle.std.specs.List.{slice_get}
 use Rattle.std.specs.Option.{IsSome}

@@ -10,7 +10,7 @@ use Rattle.dagcbor_resolve.specs.Resolving.{LeadsOn, GoesOver, AreOnTheWay, AreO
 
 -- ---- the way
 
--- the path went over these names, and goes on from this one, where these segments are left
+-- the path went over these names, and goes on from this one with these segments left
 abbrev pub WentTo : Stored → CidParts → List (List ℕ) → List CidParts → CidParts → List (List ℕ) → Type 0
 WentTo stored root path names name left = (more : List CidParts) → GoesOver stored name left more
     → AreOnTheWay stored root path (names ++ name ∷ more)

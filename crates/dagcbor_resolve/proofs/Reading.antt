@@ -1,4 +1,4 @@
--- As what bytes are read.
+-- The block as which bytes are read.
 use Rattle.std.proofs.Common.{◌≡◌, inl, inr, List, ℕ, arith, sym, ap, ◌∙◌, subst}
 use Rattle.ipld_tree.specs.Cid.{CidParts}
 use Rattle.ipld_tree.specs.Tree.{Tree}
@@ -54,7 +54,7 @@ pub no_node_of : (b : List ℕ) (e : ModelError) (t : Tree) → HasNoModel b e �
 no_node_of b (NoNode e) t none h = none.0 (h.0, h.1)
 no_node_of b NameNotText t none h = none.2 (subst HasTextNames (node_unique b h.0 none.0 h.1 none.1) h.2)
 
--- nor is what has no data model
+-- a node without a data model is not read as a block
 pub not_modelled : (name : CidParts) (b block : List ℕ) (e : ModelError) → IsDagPb name → HasNoModel b e → IsReadAs name b block → ⊥
 not_modelled name b block e is none (inl r) = absurd (omega (arith, is, r.0))
 not_modelled name b block e is none (inr r) = no_node_of b e r.1.0 none r.1.1

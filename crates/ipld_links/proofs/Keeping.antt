@@ -73,7 +73,7 @@ other_kept s n name c is found differs (inl e) = absurd (differs (some_same name
 
 -- ---- one name more
 
--- the places tell what they told
+-- the places are unchanged
 abbrev pub SamePlaces : HeldNames → HeldNames → Type 0
 SamePlaces old new = (n : ℕ) → get nat_cmp new.places n ≡ get nat_cmp old.places n
 

@@ -79,7 +79,7 @@ not_inline form q p other e i = other (subst IsInline (cid_unique i.0 q i.1 p (s
 
 -- ---- one link
 
--- of one CID the binary forms are the same
+-- CIDs that are equal have the same binary form
 own : (c d : CidParts) → AreCidParts c → AreCidParts d → cid_bytes c ≡ cid_bytes d → c ≡ d
 own c d p q e = cid_unique c d p q e
 
@@ -209,7 +209,7 @@ all_adding codec b rest held old new a none = (a.1.links, a.1.block, subst (λ l
 
 -- ---- measures
 
--- a digest that stands in a block is shorter than the block
+-- a digest inside a block is shorter than the block
 pub digest_inside : (b rest behind : List ℕ) (c : CidParts) → length rest ≤ length b → length (cid_bytes c) + length behind < length rest → length c.digest < length b
 digest_inside b rest behind c fits shorter = omega (arith, digest_le, fits, shorter)
   where
@@ -239,7 +239,7 @@ names_of codec b items held start new free none h is =
     let reached = reached_only held start new h.0 free none h.2 in
     (h.0, h.1, λ q. subst (λ ms. Among q ms ↔ IsReachedName q h.0) (sym is) (reached q))
 
--- what has no forms is empty
+-- a list without binary forms is empty
 pub no_forms : (cids : List CidParts) → forms cids ≡ [] → cids ≡ []
 no_forms [] e = refl
 no_forms (c ∷ cids) e = absurd (cc e)

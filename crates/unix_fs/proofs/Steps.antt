@@ -7,7 +7,7 @@ use Rattle.unix_fs.specs.Fields.{Front, Value, field_of, found_with, found_from,
 use Rattle.unix_fs.specs.UnixFs.{SaidParts, nothing_said, with_field, then_rest, said_next, or_at, said_from, said_of}
 use Rattle.unix_fs.proofs.Fronts.{after_split, ok_rest, no_ok, field_shorter}
 
--- ---- what was said
+-- ---- the values of fields
 
 then_split : (rest : List ℕ) (r : Result SaidParts UnixFsCause) (next : SaidParts) (left : List ℕ) → then_rest rest r ≡ Ok (next, left) → rest ≡ left
 then_split rest (Ok said) next left e = ok_rest said next rest left e
@@ -33,7 +33,7 @@ said_enough message (suc m) (suc n) said (x ∷ b) h k =
     or_at_same message (x ∷ b) (said_next said (x ∷ b)) (said_from message m) (said_from message n)
     (λ next rest e. let s = said_shorter said next (x ∷ b) rest e in said_enough message m n next rest (omega (arith, s, h)) (omega (arith, s, k)))
 
--- what was said before the rest
+-- the values of the fields before the rest
 pub record IsReadTo (message : List ℕ) (said : SaidParts) (rest : List ℕ) : Type 0 where
   pub same : said_of message ≡ said_from message (length rest) said rest
   pub within : length rest ≤ length message

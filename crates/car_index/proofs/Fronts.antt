@@ -20,7 +20,7 @@ pub behind_front : (b xs rest : List ℕ) (p n : ℕ) → n ≡ length xs → dr
 behind_front b xs rest p n long is =
     sym (drop-drop n p b) ∙ (ap (drop n) is ∙ (ap (λ m. drop m (xs ++ rest)) long ∙ drop-append_seam xs rest))
 
--- as many bytes stand there
+-- the bytes from a place on are as many as the parts have
 pub front_within : (b xs rest : List ℕ) (p : ℕ) → 0 < length xs → drop p b ≡ xs ++ rest → p + (length xs + length rest) ≡ length b
 front_within b xs rest p some is =
     let whole : length (drop p b) ≡ length (xs ++ rest) = ap length is in
@@ -107,7 +107,7 @@ runs_behind b rest p (r ∷ rs) fits each is =
     let l = runs_behind b rest ((p + 12) + r.0 * length r.1) rs fits each.1 k.behind in
     (l.0, ap (option_and_then (λ (f : Bucket × ℕ). after_heads b (length rs) f.1)) k.head ∙ l.1, l.2)
 
--- the entries of a run are found, and stand there
+-- the bucket of a run is found, and its entries are there
 pub record FindsRun (b : List ℕ) (r : Run) (found : Option Bucket) : Type 0 where
   pub bucket : Bucket
   pub is : found ≡ Some bucket
@@ -151,7 +151,7 @@ buckets_front : (b rest : List ℕ) (p : ℕ) (es : List EntryParts) → length 
 buckets_front b rest p es few is =
     count_front b (flat_map bucket_bytes (runs width_of es) ++ rest) p (length (runs width_of es)) few (is ∙ append_assoc (to_le_bytes w32 (length (runs width_of es))) (flat_map bucket_bytes (runs width_of es)) rest)
 
--- the code of a run, its entries, and what follows them
+-- the code of a run, its entries, and the bytes after them
 pub record IsCodeAt (b rest : List ℕ) (p : ℕ) (s : Run) : Type 0 where
   pub code : number_in w64 b p ≡ Some s.0
   pub buckets : drop (p + 8) b ≡ buckets_bytes s.1 ++ rest

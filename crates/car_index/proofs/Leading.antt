@@ -83,7 +83,7 @@ module _ (b : List ℕ) (w : ℕ) (es : List EntryParts) (found : Option Bucket)
       let within : entry_place h.bucket n + (length (entry_bytes k.at) + length (flat_map entry_bytes k.behind ++ h.rest)) ≡ length b = front_within b (entry_bytes k.at) (flat_map entry_bytes k.behind ++ h.rest) (entry_place h.bucket n) (omega (arith, one, is)) (entry_stands n k) in
       absurd (omega (arith, within, one, is, short))
 
-  -- an entry is below a digest where that says so
+  -- the digest in the bytes of an entry is below this one, if that of the entry is
   below_so : (digest : List ℕ) (n : ℕ) (k : Parted es n) → length digest + 8 ≡ w → is_below b h.bucket digest n ≡ is_lt (slice_cmp nat_cmp k.at.digest digest)
   below_so digest n k is = ap (λ l. is_lt (slice_cmp nat_cmp l digest)) (entry_digest n (length digest) k is)
 
@@ -147,7 +147,7 @@ module _ (b : List ℕ) (w : ℕ) (es : List EntryParts) (found : Option Bucket)
           let clash : true ≡ false = sym (f.before m it) ∙ (below_so b w es found h wide digest m at is ∙ not_first (slice_cmp nat_cmp k.at.digest digest) high) in
           cc clash
 
-  -- and so each of its entries stands there
+  -- the entries of the digest follow, each at its number
   entry_there : (n m : ℕ) (k : Parted t.there m) → IsFirst b h.bucket digest n → IsEntryOf b h.bucket digest (n + m) k.at.offset
   entry_there n m k f =
       let begins : n ≡ length t.below = first_there n f in
@@ -163,7 +163,7 @@ module _ (b : List ℕ) (w : ℕ) (es : List EntryParts) (found : Option Bucket)
 
 -- ---- the place of an entry among those of its multihash
 
--- an element that is so, after ones that are not
+-- an element of which P holds is not in a list of those of which it does not
 not_among : {X : Type 0} (P : X → Type 0) (xs ys : List X) (x : X) → x ∷ xs ≡ ys → P x → AllByRecursion (λ y. P y → ⊥) ys → ⊥
 not_among P xs ys x is p none = (subst (AllByRecursion (λ y. P y → ⊥)) (sym is) none).0 p
 
@@ -179,7 +179,7 @@ module _ {X : Type 0} (P : X → Type 0) (there above : List X) (so : AllByRecur
       by (t ∷ ts) s i = let same : y ≡ t = cc i in absurd (h.0 (subst P (sym same) s.0))
   same_behind x xs (y ∷ ys) (z ∷ zs) p h k is = let rest : ys ++ (x ∷ xs) ≡ zs ++ (there ++ above) = cc is in same_behind x xs ys zs p h.1 k.1 rest
 
-  -- elements that are so, after which one stands that is so too, are the first of those
+  -- if P holds of these elements and the next, they are the first of those of which it holds
   first_among : (same ts behind : List X) (x : X) → P x → AllByRecursion P same → same ++ (x ∷ behind) ≡ ts ++ above → AllByRecursion P ts → (more : List X) × (ts ≡ same ++ (x ∷ more))
   first_among [] [] behind x p h is s = absurd (not_among P behind above x is p none)
   first_among [] (t ∷ ts) behind x p h is s = let it : x ≡ t = cc is in (ts, ap (λ v. v ∷ ts) (sym it))

@@ -71,7 +71,7 @@ link_shown : (t : Tree) (s : List ℕ) → view_link t ≡ Some s → t ≡ link
 link_shown (link x) s e = (let same : x ≡ s = cc in ap link same)
 link_shown _ s e = absurd cc
 
--- a link was pulled, or none stands there
+-- a link was pulled, or the item is not a link
 abbrev pub PullsLink : List ℕ → Option CidParts → Type 0
 PullsLink b result = (t : Tree) → BeginsWithTree b t → MatchOption result ((cid : List ℕ) → t ≢ link cid) (λ c. t ≡ link (cid_bytes c))
 

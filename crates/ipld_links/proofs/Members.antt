@@ -30,7 +30,7 @@ pub none_of : {X : Type 0} (xs : List X) → length xs ≡ 0 → xs ≡ []
 none_of [] none = refl
 none_of (x ∷ xs) none = absurd (omega (arith, none))
 
--- memory runs out only if there is something to list
+-- a refusal comes only if the list is not empty
 pub some_of : {X A E : Type 0} (xs : List X) (r : Result A E) → (length xs ≡ 0 → ⊥) → OnErr r (xs ≢ [])
 some_of xs (Ok v) some = tt
 some_of [] (Err e) some = absurd (some refl)

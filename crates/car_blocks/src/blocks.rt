@@ -34,7 +34,7 @@ fn put_block(
     }
 }
 
-/// Returns the blocks of the sections, one after another. The bytes have to be whole sections.
+/// Reads the bytes as sections, one after another, and returns their blocks.
 fn section_blocks(
     alloc: Global,
     bytes: &[u8],

@@ -201,8 +201,8 @@ impl Bucket {
         Ok(Some((&*read).cmp(digest)))
     }
 
-    /// Returns how many entries come before the first whose digest is not below this one. `None` if
-    /// the bytes end within an entry's digest. The digests have to ascend.
+    /// Returns how many entries come before the first whose digest is not below this one, if the
+    /// digests ascend. `None` if the bytes end within an entry's digest.
     pub fn first_of<S: ReadAt>(&self, source: &S, digest: &[u8]) -> io::Result<Option<u64>>
         requires { length digest.now ≤ 64 }
         ensures { Looks (S.bytes source.now) result (FindsFirst self.now digest.now) }

@@ -13,8 +13,8 @@ pub enum PbCause {
     /// A number has more than ten bytes, or is not below 2^64.
     #[error("a number is too large")]
     InvalidVarint,
-    /// A field with this tag may not be there. No field has this tag, or the field comes twice or
-    /// out of order. A tag is eight times the field's number, plus its wire type.
+    /// A field with this tag is not allowed there. No field has this tag, or the field comes twice
+    /// or out of order. A tag is eight times the field's number, plus its wire type.
     #[error("a field of the tag {0} can't stand there")]
     UnexpectedField(u64),
     /// A link is empty.

@@ -32,7 +32,7 @@ pub struct PbLink<'a> {
     pub tsize: Option<u64>,
 }
 
-/// Returns the link of a message. The bytes have to be the whole message.
+/// Reads the bytes as the whole message of a link, and returns the link.
 pub(crate) fn read_link(message: &[u8]) -> Result<PbLink<'_>, Stop>
     ensures { MatchResult result
         (λ link. IsLink message.now (link_of link))

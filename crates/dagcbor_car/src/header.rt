@@ -52,7 +52,7 @@ impl Serialize for Header<'_> {
 pub(crate) fn spell_header(alloc: Global, roots: &[Cid]) -> Result<Vec<u8>, AllocError>
     ensures { IfOk result (λ v. IsSpelling v.items (header_tree (forms roots.now))) }
 {
-    // A list of CIDs can always be encoded, so only memory can be refused.
+    // A list of CIDs can always be encoded, so this is refused only if memory runs out.
     to_vec(alloc, &Header { roots }).map_err(|_| AllocError)
 }
 
@@ -146,12 +146,12 @@ fn behind_links(bytes: &[u8], count: u64) -> Option<&[u8]>
     Some(rest)
 }
 
-/// Returns the roots of a header. The bytes have to be a whole header.
+/// Reads the bytes as a whole header, and returns its roots.
 pub(crate) fn read_header<E: Drop>(alloc: Global, bytes: &[u8]) -> Result<Vec<Cid>, CarError<E>>
     ensures { ReadsHeader bytes.now result }
 {
     judge_block(bytes)?;
-    // The bytes are a block, so only memory can be refused.
+    // The bytes are a block, so this is refused only if memory runs out.
     match links_from_slice(alloc, bytes) {
         Ok(roots) => Ok(roots),
         Err(_) => Err(CarError::OutOfMemory),

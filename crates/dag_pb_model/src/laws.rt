@@ -30,7 +30,7 @@ pub fn blocks_have_text_names()
     ensures { BlocksHaveTextNames }
 {}
 
-/// No two nodes have the same data model.
+/// No two nodes that can be encoded have the same data model.
 pub fn models_are_of_one_node()
     ensures { ModelsAreOfOneNode }
 {}

@@ -17,7 +17,7 @@ use Rattle.car_blocks.specs.Blocks.{put_section, put_sections, nothing_stored, s
 
 -- ---- one block more
 
--- what a map stores where this stands under the name
+-- a map after a block was stored under a name
 pub stored_put : (old new : BTreeMap CidParts (Vec ℕ Global)) (s : Section) (v : Vec ℕ Global) → v.items ≡ s.1 → ((q : CidParts) → get cid_cmp new q ≡ cond (is_at (cid_cmp s.0) q) (Some v) (get cid_cmp old q)) → stored_in new ≡ put_section (stored_in old) s
 stored_put old new s v bytes put = λ i q. each q i
   where
@@ -104,7 +104,7 @@ header_for b faults.InvalidOffset h = no_header b h.0
 pub header_refused : (b : List ℕ) (e : CarError Infallible) → HeaderRefused e b → BlocksRefused b e
 header_refused b e h = (header_for b e h, inl h)
 
--- where a header stands, and after it sections, and then none though bytes do, the bytes are no file
+-- bytes with a header, and sections, and then bytes that begin with no section, are not a file
 no_sections : (b rest left : List ℕ) (roots : List (List ℕ)) (ss : List Section) → SplitsHeader b roots rest → SplitsSections rest ss left → BeginsNoSection left → 0 < length left → IsNoCar b
 no_sections b rest left roots ss h split none some others ts car =
     let same = header_unique roots others rest (flat_map section_bytes ts) h.0 car.header (sym h.1 ∙ car.is) in

@@ -1,4 +1,4 @@
--- The blocks of a file of version 1, held in memory (CARv1 specification).
+-- The blocks of a CAR file of version 1 in memory (CARv1 specification).
 use Rattle.std.specs.Prelude.{◌≡◌, ◌⊎◌, ◌<◌, ℕ, length, List, [], ◌∷◌, ◌++◌, cond, Option, None, Some, flat_map, ⊤}
 use Rattle.std.specs.BTreeMap.{is_at}
 use Rattle.std.specs.List.{AllByRecursion}
@@ -10,32 +10,32 @@ use Rattle.dagcbor_car.specs.Splits.{SplitsHeader, HeaderRefused, SplitsSection,
 use Rattle.dagcbor_car.specs.declared.error.CarError.{CarError}
 use Rattle.dagcbor_car.specs.declared.error.CarError.TheVariants.{OutOfMemory}
 
--- ---- what is held
+-- ---- stored blocks
 
--- the block of the section stands under its name, and under each other name what stood there
+-- the block of the section is stored under its name; under other names nothing changes
 abbrev pub put_section : Stored → Section → Stored
 put_section stored s name = cond (is_at (cid_cmp s.0) name) (Some s.1) (stored name)
 
--- the blocks of these sections, one after the other
+-- the blocks of these sections are stored, one after another
 abbrev pub put_sections : Stored → List Section → Stored
 put_sections stored [] = stored
 put_sections stored (s ∷ ss) = put_sections (put_section stored s) ss
 
--- nothing stands under any name
+-- nothing is stored under any name
 abbrev pub nothing_stored : Stored
 nothing_stored name = None
 
--- under each name the block of the last section of that name
+-- under each name the block of the last section with that name is stored
 abbrev pub stored_of : List Section → Stored
 stored_of ss = put_sections nothing_stored ss
 
--- the bytes are the file of these roots and some sections, whose blocks are stored
+-- the bytes are a file with these roots and some sections, whose blocks are stored
 abbrev pub HoldsBlocks : List ℕ → List (List ℕ) → Stored → Type 0
 HoldsBlocks b roots stored = (ss : List Section) × IsCar b roots ss × (stored ≡ stored_of ss)
 
--- ---- why nothing is
+-- ---- refusals
 
--- so many sections stand at the front, and the rest follows
+-- the bytes are these sections, and then the rest
 abbrev pub SplitsSections : List ℕ → List Section → List ℕ → Type 0
 SplitsSections b ss rest = AllByRecursion IsSection ss × (b ≡ flat_map section_bytes ss ++ rest)
 
@@ -43,25 +43,25 @@ SplitsSections b ss rest = AllByRecursion IsSection ss × (b ≡ flat_map sectio
 abbrev pub HoldsSections : List ℕ → Stored → Type 0
 HoldsSections b stored = (ss : List Section) × SplitsSections b ss [] × (stored ≡ stored_of ss)
 
--- after some sections memory is wanted for the next, or none stands, though bytes do, for this cause
+-- memory runs out for a section; or bytes are left, and no section begins, for this cause
 abbrev pub StopsAt : List ℕ → CarError Infallible → Type 0
 StopsAt b OutOfMemory = (s : Section) × (rest : List ℕ) × SplitsSection b s rest
 StopsAt b e = BeginsNoSection b × SectionFault e b × (0 < length b)
 
--- the same, of the bytes as a whole
+-- after some sections, reading the bytes stops for this cause
 abbrev pub NoSections : List ℕ → CarError Infallible → Type 0
 NoSections b e = (ss : List Section) × (rest : List ℕ) × SplitsSections b ss rest × StopsAt rest e
 
--- the bytes are no file of version 1
+-- the bytes are not a file of version 1
 abbrev pub IsNoCar : List ℕ → Type 0
 IsNoCar b = (roots : List (List ℕ)) (ss : List Section) → ¬ IsCar b roots ss
 
--- want of memory says nothing of the bytes
+-- the bytes are not a file of version 1, unless the cause is that memory ran out
 abbrev pub IsNoCarFor : List ℕ → CarError Infallible → Type 0
 IsNoCarFor b OutOfMemory = ⊤
 IsNoCarFor b e = IsNoCar b
 
--- why no blocks are held: the header is refused, or what follows it
+-- why no blocks are returned: the header is refused, or what follows it
 abbrev pub BlocksRefused : List ℕ → CarError Infallible → Type 0
 BlocksRefused b e = IsNoCarFor b e × (HeaderRefused e b
     ⊎ ((roots : List (List ℕ)) × (rest : List ℕ) × SplitsHeader b roots rest × NoSections rest e))

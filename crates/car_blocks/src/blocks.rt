@@ -1,4 +1,4 @@
-//! The blocks of a file of version 1.
+//! The blocks of a CAR file of version 1.
 
 ghost use Rattle.std.specs.Prelude.{IfErr, IfOk, MatchResult, OnOk, ◌≡◌};
 ghost use Rattle.dagcbor_items.specs.Walks.{forms};
@@ -18,7 +18,7 @@ pub struct CarBlocks {
     pub blocks: BTreeMap<Cid, Vec<u8>>,
 }
 
-/// Puts the block of a section under its name, in the place of what stands there.
+/// Stores the block of a section under its name, and replaces a block that was there.
 fn put_block(
     alloc: Global,
     blocks: &mut BTreeMap<Cid, Vec<u8>>,
@@ -34,7 +34,7 @@ fn put_block(
     }
 }
 
-/// The blocks of the sections that the bytes are, one after the other.
+/// Reads the bytes as sections, one after another, and returns their blocks.
 fn section_blocks(
     alloc: Global,
     bytes: &[u8],
@@ -57,8 +57,8 @@ fn section_blocks(
     Ok(blocks)
 }
 
-/// The roots and the blocks of the file of version 1 that the bytes are. Of two blocks under one
-/// name the last stays. No block is judged.
+/// Returns the roots and the blocks of a file of version 1. Of two blocks with the same name the
+/// last is kept. No block is compared with its name, or validated.
 #[tactic(auto, using(crate::proofs::Holding::whole, crate::proofs::Holding::header_refused, crate::proofs::Holding::sections_refused))]
 pub fn read_blocks(alloc: Global, bytes: &[u8]) -> Result<CarBlocks, CarError<Infallible>>
     ensures read { IfOk result

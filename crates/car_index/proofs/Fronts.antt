@@ -1,4 +1,4 @@
--- What stands at a place of an index.
+-- The parts at a place of an index.
 use Rattle.std.proofs.Common.{◌≡◌, ℕ, ◌+◌, ◌*◌, ◌/◌, ◌^◌, ◌<◌, ◌≤◌, ◌==◌, ◌&&◌, ltb, cond, List, [], ◌∷◌, ◌++◌, length, take, drop, Option, None, Some, option_and_then, sym, ap, ◌∙◌, subst, refl, arith, append_assoc, flat_map, length-append}
 use Rattle.std.proofs.lemmas.Bool.{lt-ltb, le-leb, eq-eqb, ne_eqb}
 use Rattle.std.proofs.lemmas.List.{drop-drop, length-drop}
@@ -20,7 +20,7 @@ pub behind_front : (b xs rest : List ℕ) (p n : ℕ) → n ≡ length xs → dr
 behind_front b xs rest p n long is =
     sym (drop-drop n p b) ∙ (ap (drop n) is ∙ (ap (λ m. drop m (xs ++ rest)) long ∙ drop-append_seam xs rest))
 
--- as many bytes stand there
+-- the bytes from a place on are as many as the parts have
 pub front_within : (b xs rest : List ℕ) (p : ℕ) → 0 < length xs → drop p b ≡ xs ++ rest → p + (length xs + length rest) ≡ length b
 front_within b xs rest p some is =
     let whole : length (drop p b) ≡ length (xs ++ rest) = ap length is in
@@ -67,7 +67,7 @@ entries_long w (e ∷ es) h =
 abbrev pub bucket_there : ℕ → Run → Bucket
 bucket_there p r = record { begin = p + 12; width = r.0; count = length r.1 }
 
--- the head of a run, its entries, and what follows them
+-- the head of a run, its entries, and the bytes after them
 pub record IsRunAt (b rest : List ℕ) (p : ℕ) (r : Run) : Type 0 where
   pub head : bucket_at b p ≡ Some (bucket_there p r, (p + 12) + r.0 * length r.1)
   pub entries : drop (p + 12) b ≡ flat_map entry_bytes r.1 ++ rest
@@ -99,7 +99,7 @@ run_front b rest p r fits run is =
         ∙ (ap (λ v. cond v (Some (record { begin = begin; width = width; count = long / width }, begin + long)) None) (lt-ltb (begin + long) (2 ^ 64) ends)
         ∙ ap (λ n. Some (record { begin = begin; width = width; count = n }, begin + long)) is)
 
--- what follows all runs
+-- the place and the bytes after all runs
 pub runs_behind : (b rest : List ℕ) (p : ℕ) (rs : List Run) → length b < 2 ^ 64 → AllByRecursion IsWidthRun rs → drop p b ≡ flat_map bucket_bytes rs ++ rest → (q : ℕ) × (after_heads b (length rs) p ≡ Some q) × (drop q b ≡ rest)
 runs_behind b rest p [] fits each is = (p, refl, is)
 runs_behind b rest p (r ∷ rs) fits each is =
@@ -107,7 +107,7 @@ runs_behind b rest p (r ∷ rs) fits each is =
     let l = runs_behind b rest ((p + 12) + r.0 * length r.1) rs fits each.1 k.behind in
     (l.0, ap (option_and_then (λ (f : Bucket × ℕ). after_heads b (length rs) f.1)) k.head ∙ l.1, l.2)
 
--- the entries of a run are found, and stand there
+-- the bucket of a run is found, and its entries are there
 pub record FindsRun (b : List ℕ) (r : Run) (found : Option Bucket) : Type 0 where
   pub bucket : Bucket
   pub is : found ≡ Some bucket
@@ -151,7 +151,7 @@ buckets_front : (b rest : List ℕ) (p : ℕ) (es : List EntryParts) → length 
 buckets_front b rest p es few is =
     count_front b (flat_map bucket_bytes (runs width_of es) ++ rest) p (length (runs width_of es)) few (is ∙ append_assoc (to_le_bytes w32 (length (runs width_of es))) (flat_map bucket_bytes (runs width_of es)) rest)
 
--- the code of a run, its entries, and what follows them
+-- the code of a run, its entries, and the bytes after them
 pub record IsCodeAt (b rest : List ℕ) (p : ℕ) (s : Run) : Type 0 where
   pub code : number_in w64 b p ≡ Some s.0
   pub buckets : drop (p + 8) b ≡ buckets_bytes s.1 ++ rest

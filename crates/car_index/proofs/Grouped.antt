@@ -15,7 +15,7 @@ use Rattle.std.specs.declared.cmp.Ordering.TheVariants.{Less, Equal, Greater}
 use Rattle.car_index.specs.Index.{EntryParts, Run, before_runs, runs, width_of, entry_cmp}
 use Rattle.car_index.proofs.Runs.{front_run, front_of}
 
--- ---- what holds of each
+-- ---- properties of each entry
 
 pub each_map : {X : Type 0} {P Q : X → Type 0} (xs : List X) → AllByRecursion P xs → ((x : X) → P x → Q x) → AllByRecursion Q xs
 each_map [] h f = tt
@@ -116,7 +116,7 @@ pub sorted_pairs : (es : List EntryParts) → IsSorted entry_cmp es → Pairs Up
 sorted_pairs [] h = tt
 sorted_pairs (e ∷ es) h = pairs_numbered Up e (e ∷ es) (λ i j u l. sorted_far (λ x y. is_lt (entry_cmp x y)) entry_order (e ∷ es) h i j e u l)
 
--- ---- what an order of entries says of their parts
+-- ---- the order of entries, and of their parts
 
 nat_less : (m n : ℕ) → m < n → nat_cmp m n ≡ Less
 nat_less m n h = sym (nat_cmp_is m n Less h)
@@ -149,7 +149,7 @@ digests_up x y same long up less =
     ∙ (ap (λ o. is_lt (ordering_then o (ordering_then (slice_cmp nat_cmp y.digest x.digest) (nat_cmp y.offset x.offset)))) (nat_equal (length y.digest) (length x.digest) (sym long))
     ∙ ap (λ o. is_lt (ordering_then o (nat_cmp y.offset x.offset))) less)) ∙ up in cc clash
 
--- how a digest stands to this one, as a number
+-- how a digest compares with this one, as a number
 abbrev pub rank : List ℕ → EntryParts → ℕ
 rank digest x = ordering_index (slice_cmp nat_cmp x.digest digest)
 
@@ -236,7 +236,7 @@ module _ (key : EntryParts → ℕ) where
       ∙ (ap (λ v. cond v ((key e, e ∷ (x ∷ xs)) ∷ runs key more) ((key e, e ∷ []) ∷ ((k, x ∷ xs) ∷ runs key more))) (eq-eqb k (key e) (sym same.0))
       ∙ ap (λ n. (n, e ∷ (x ∷ xs)) ∷ runs key more) same.0)
 
-  -- those after entries of other keys stand after their runs
+  -- the run of a key comes after the runs of the entries before it
   pub run_parted : (k : ℕ) (below : List EntryParts) (e : EntryParts) (es above : List EntryParts) → AllByRecursion (λ x. key x ≡ k → ⊥) below → AllByRecursion (λ x. key x ≡ k) (e ∷ es) → AllByRecursion (λ x. key x ≡ k → ⊥) above → runs key (below ++ ((e ∷ es) ++ above)) ≡ runs key below ++ ((k, e ∷ es) ∷ runs key above)
   run_parted k [] e es above others same more = one_run k e es above same more
   run_parted k (b ∷ []) e es above others same more =
@@ -249,7 +249,7 @@ module _ (key : EntryParts → ℕ) where
       ∙ (ap (λ rs. before_runs (key b) b (rs ++ tail)) first.2
       ∙ (before_joined (key b) b (key c, first.0) first.1 tail ∙ ap (λ rs. before_runs (key b) b rs ++ tail) (sym first.2)))
 
-  -- what is so of each entry of a run
+  -- the run has an entry, at most this many, and P holds of each
   pub record IsRunOf (P : EntryParts → Type 0) (most : ℕ) (r : Run) : Type 0 where
     pub some : 0 < length r.1
     pub few : length r.1 ≤ most

@@ -27,7 +27,7 @@ not_there x e k i less more = go (nat_lt k i) refl
     go true is = ap is_eq (less (ltb-true k i is))
     go false is = ap is_eq (more (ltb-false k i is))
 
--- what a search among sorted entries answers
+-- the answer of a search among sorted entries
 pub searched_entry : (es : List EntryParts) (e : EntryParts) (r : Result ℕ ℕ) → IsSorted entry_cmp es → IsSearchInRange r (length es) → IsBinarySearchResult (λ x. entry_cmp x e) es r → is_ok r ≡ is_entry_of es e
 searched_entry es e (Ok i) up within h = sym (list_any_at (λ x. is_eq (entry_cmp x e)) es i e within (ap is_eq (h e)))
 searched_entry es e (Err i) up within h =
@@ -73,7 +73,7 @@ chosen_pushed f p xs old new i x lt at h e =
     e ∙ ap (λ l. l ++ cond (p x) (f x ∷ []) []) h ∙ ap (λ l. map f (filter p (take i xs)) ++ l) (sym (map_cond f (p x) x))
     ∙ sym (ap (map f) (filter_next p xs i x lt at) ∙ map_append f (filter p (take i xs)) (cond (p x) (x ∷ []) []))
 
--- those that are wrong by the sorted entries are so by any
+-- the entries that are wrong by the sorted right entries are wrong by any order of these
 pub wrong_by : (xs right : List EntryParts) (es found : List EntryParts) → IsPermutation xs right → found ≡ filter (λ e. not (is_entry_of right e)) es → found ≡ filter (λ e. not (is_entry_of xs e)) es
 wrong_by xs right es found same h = h ∙ filter_same (λ e. not (is_entry_of right e)) (λ e. not (is_entry_of xs e)) (λ e. ap not (of_permutation xs right e same)) es
 

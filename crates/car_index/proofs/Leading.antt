@@ -48,7 +48,7 @@ code_runs es few room = each_map (runs hash_code_of es) (runs_so hash_code_of Ha
 -- ---- the entries of a bucket
 
 module _ (b : List ℕ) (w : ℕ) (es : List EntryParts) (found : Option Bucket) (h : FindsRun b (w, es) found) (wide : AllByRecursion (λ e. width_of e ≡ w) es) where
-  -- an entry stands at its place
+  -- the bytes at an entry's place begin with the entry
   entry_stands : (n : ℕ) (k : Parted es n) → drop (entry_place h.bucket n) b ≡ entry_bytes k.at ++ (flat_map entry_bytes k.behind ++ h.rest)
   entry_stands n k =
       let parts : flat_map entry_bytes es ≡ flat_map entry_bytes k.before ++ (entry_bytes k.at ++ flat_map entry_bytes k.behind) =
@@ -83,7 +83,7 @@ module _ (b : List ℕ) (w : ℕ) (es : List EntryParts) (found : Option Bucket)
       let within : entry_place h.bucket n + (length (entry_bytes k.at) + length (flat_map entry_bytes k.behind ++ h.rest)) ≡ length b = front_within b (entry_bytes k.at) (flat_map entry_bytes k.behind ++ h.rest) (entry_place h.bucket n) (omega (arith, one, is)) (entry_stands n k) in
       absurd (omega (arith, within, one, is, short))
 
-  -- an entry is below a digest where that says so
+  -- the digest in the bytes of an entry is below this one, if that of the entry is
   below_so : (digest : List ℕ) (n : ℕ) (k : Parted es n) → length digest + 8 ≡ w → is_below b h.bucket digest n ≡ is_lt (slice_cmp nat_cmp k.at.digest digest)
   below_so digest n k is = ap (λ l. is_lt (slice_cmp nat_cmp l digest)) (entry_digest n (length digest) k is)
 
@@ -104,7 +104,7 @@ equal_only Less h = absurd (omega (arith, h))
 equal_only Equal h = refl
 equal_only Greater h = absurd (omega (arith, h))
 
--- an element of two lists stands in one of them
+-- an element of the second list, by its place in both together
 abbrev shifted : {X : Type 0} (xs ys : List X) (n m : ℕ) → n ≡ length xs + m → Parted ys m → Parted (xs ++ ys) n
 shifted xs ys n m is k = record { before = xs ++ k.before; at = k.at; behind = k.behind; is = ap (λ l. xs ++ l) k.is ∙ sym (append_assoc xs k.before (k.at ∷ k.behind)); long = omega (arith, length-append xs k.before, k.long, is) }
 
@@ -115,7 +115,7 @@ abbrev moved : {X : Type 0} (xs ys : List X) (n : ℕ) → xs ≡ ys → Parted 
 moved xs ys n same k = record { before = k.before; at = k.at; behind = k.behind; is = same ∙ k.is; long = k.long }
 
 module _ (b : List ℕ) (w : ℕ) (es : List EntryParts) (found : Option Bucket) (h : FindsRun b (w, es) found) (wide : AllByRecursion (λ e. width_of e ≡ w) es) (room : AllByRecursion HasRoom es) (digest : List ℕ) (is : length digest + 8 ≡ w) (t : InThree (rank digest) 1 es) where
-  -- the first entry of the digest stands after those below it
+  -- the first entry of the digest comes after those below it
   first_there : (n : ℕ) → IsFirst b h.bucket digest n → n ≡ length t.below
   first_there n f = elim (cases_lt n (length t.below)) [
     | inl less ↦ too_low less
@@ -147,7 +147,7 @@ module _ (b : List ℕ) (w : ℕ) (es : List EntryParts) (found : Option Bucket)
           let clash : true ≡ false = sym (f.before m it) ∙ (below_so b w es found h wide digest m at is ∙ not_first (slice_cmp nat_cmp k.at.digest digest) high) in
           cc clash
 
-  -- and so each of its entries stands there
+  -- the entries of the digest follow, each at its number
   entry_there : (n m : ℕ) (k : Parted t.there m) → IsFirst b h.bucket digest n → IsEntryOf b h.bucket digest (n + m) k.at.offset
   entry_there n m k f =
       let begins : n ≡ length t.below = first_there n f in
@@ -161,9 +161,9 @@ module _ (b : List ℕ) (w : ℕ) (es : List EntryParts) (found : Option Bucket)
         offset = entry_offset b w es found h wide (n + m) (length digest) at is (each_at HasRoom es (n + m) at room).2;
       }
 
--- ---- where an entry stands among those of its multihash
+-- ---- the place of an entry among those of its multihash
 
--- an element that is so, after ones that are not
+-- an element of which P holds is not in a list of those of which it does not
 not_among : {X : Type 0} (P : X → Type 0) (xs ys : List X) (x : X) → x ∷ xs ≡ ys → P x → AllByRecursion (λ y. P y → ⊥) ys → ⊥
 not_among P xs ys x is p none = (subst (AllByRecursion (λ y. P y → ⊥)) (sym is) none).0 p
 
@@ -179,7 +179,7 @@ module _ {X : Type 0} (P : X → Type 0) (there above : List X) (so : AllByRecur
       by (t ∷ ts) s i = let same : y ≡ t = cc i in absurd (h.0 (subst P (sym same) s.0))
   same_behind x xs (y ∷ ys) (z ∷ zs) p h k is = let rest : ys ++ (x ∷ xs) ≡ zs ++ (there ++ above) = cc is in same_behind x xs ys zs p h.1 k.1 rest
 
-  -- elements that are so, after which one stands that is so too, are the first of those
+  -- if P holds of these elements and the next, they are the first of those of which it holds
   first_among : (same ts behind : List X) (x : X) → P x → AllByRecursion P same → same ++ (x ∷ behind) ≡ ts ++ above → AllByRecursion P ts → (more : List X) × (ts ≡ same ++ (x ∷ more))
   first_among [] [] behind x p h is s = absurd (not_among P behind above x is p none)
   first_among [] (t ∷ ts) behind x p h is s = let it : x ≡ t = cc is in (ts, ap (λ v. v ∷ ts) (sym it))

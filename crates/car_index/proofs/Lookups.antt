@@ -1,4 +1,4 @@
--- What is looked up in an index.
+-- Look-ups in an index.
 use Rattle.std.proofs.Common.{◌≡◌, ℕ, suc, ◌+◌, ◌-◌, ◌^◌, ◌<◌, ◌≤◌, min, true, false, cond, List, length, take, drop, Option, None, Some, option_and_then, IfSome, Result, Ok, Err, IfOk, ◌==◌, sym, ap, ◌∙◌, subst, refl, inl, inr, arith}
 use Rattle.std.proofs.lemmas.Bool.{lt-ltb, le-ltb, cases_lt, eq-eqb, ne_eqb}
 use Rattle.std.proofs.lemmas.List.{drop_all}
@@ -22,7 +22,7 @@ number_none w b place short = ap (λ v. cond v None (Some (from_le_bytes w (take
 pub number_some : (w : Width) (b : List ℕ) (place : ℕ) → place + byte_len w ≤ length b → number_in w b place ≡ Some (from_le_bytes w (take (byte_len w) (drop place b)))
 number_some w b place there = ap (λ v. cond v None (Some (from_le_bytes w (take (byte_len w) (drop place b))))) (le-ltb (length b) (place + byte_len w) there)
 
--- a number stands there
+-- a number that is found ends within the bytes
 pub number_there : (w : Width) (b : List ℕ) (place n : ℕ) → Some n ≡ number_in w b place → place + byte_len w ≤ length b
 number_there w b place n is = elim (cases_lt (length b) (place + byte_len w)) [
   | inl short ↦ let clash : Some n ≡ None = is ∙ number_none w b place short in cc clash
@@ -133,7 +133,7 @@ equal_reversed Greater is = cc is
 pub same_equal : {K : Type 0} {R : K → K → Ordering} → IsTotalOrder R → (x : K) → R x x ≡ Equal
 same_equal {K} {R} o x = equal_reversed (R x x) (o.antisymm x x)
 
--- what follows a place that can be named, or stands after all that can be
+-- the bytes at a place stay the same if the place saturates
 pub capped : (b : List ℕ) (place next : ℕ) → length b < 2 ^ 64 → next ≡ min place (2 ^ 64 - 1) → drop next b ≡ drop place b
 capped b place next below is = elim (cases_lt place (2 ^ 64)) [
   | inl named ↦ let same : next ≡ place = omega arith in ap (λ p. drop p b) same

@@ -14,11 +14,11 @@ joined_twice : (xs ys : List EntryParts) (f : Found) → joined xs (joined ys f)
 joined_twice xs ys (Ok t) = ap (λ es. Ok (record { entries = es; last = t.last; rest = t.rest })) (sym (append_assoc xs ys t.entries))
 joined_twice xs ys (Err e) = refl
 
--- some parts were taken, and so many are left
+-- some parts were taken, and n are left
 abbrev pub Mid : Found → Part → ℕ → List EntryParts → List EntryParts → Option ℕ → Option (List ℕ) → Type 0
 Mid whole part n old new last left = (rest : List ℕ) × (more : List EntryParts) × (left ≡ Some rest) × (new ≡ old ++ more) × (whole ≡ joined more (times n part last rest))
 
--- the same, where the bytes are known
+-- some parts were taken, and n are left, if the bytes are known
 abbrev pub Going : Part → ℕ → ℕ → Option (List ℕ) → List EntryParts → List EntryParts → Option ℕ → Option (List ℕ) → Type 0
 Going part count n known old new last left = IfSome known (λ b. Mid (times count part None b) part n old new last left)
 
@@ -52,7 +52,7 @@ going_all Last x part count n None left old new last is so h = tt
 going_all Last x part count n (Some b) left old new last is so h =
     (record { entries = h.1 ++ []; last = last; rest = h.0 }, h.4 ∙ ap (λ i. joined h.1 (times i part last h.0)) is, h.3 ∙ ap (λ l. old ++ l) (sym (append-nil h.1)), h.2, so)
 
--- what was taken has this hash code or width
+-- the parts that were taken have this hash code or width
 pub keyed_taken : {A : Type 0} (Last : A → Option ℕ → Type 0) (x : A) (key : ℕ) (f whole : Found) (old new : List EntryParts) (left : Option (List ℕ)) → whole ≡ keyed key f → Lists Last f old (Ok x) new left → Lists is_last whole old (Ok key) new left
 keyed_taken Last x key f whole old new left is h =
     let t = h.0 in

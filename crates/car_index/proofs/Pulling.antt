@@ -12,11 +12,11 @@ use Rattle.car_index.specs.declared.entries.IndexError.{IndexError}
 use Rattle.car_index.specs.declared.entries.Listing.{Listing}
 use borrow.Rule.Slice.PartMut.{put_mid, post_of}
 
--- so many bytes of the room were filled
+-- the first `filled` bytes of the buffer were filled
 abbrev pub PulledSome : Option (List ℕ) → ℕ → List ℕ → Option (List ℕ) → Type 0
 PulledSome known filled room left = IfSome known (λ b. (rest : List ℕ) × (b ≡ take filled room ++ rest) × (left ≡ Some rest))
 
--- what is left of known bytes
+-- the bytes left of known ones
 consumed : (rest bs : List ℕ) (new : Option (List ℕ)) → Consumes (Some rest) new bs → (more : List ℕ) × (rest ≡ bs ++ more) × (new ≡ Some more)
 consumed rest bs None h = absurd h
 consumed rest bs (Some more) h = (more, h, refl)

@@ -1,4 +1,4 @@
--- What is appended, one piece after the other.
+-- Appending, one piece after another.
 use Rattle.std.proofs.Common.{◌≡◌, ℕ, ◌*◌, List, ◌++◌, length, ap, ◌∙◌, append_assoc, flat_map}
 use Rattle.std.specs.Int.{w32, w64, to_le_bytes}
 use Rattle.car_index.specs.Index.{EntryParts, entry_bytes, bucket_bytes, buckets_bytes, code_bytes}

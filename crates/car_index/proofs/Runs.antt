@@ -5,12 +5,12 @@ use Rattle.std.specs.List.{prefix_len, take_while}
 use Rattle.std.proofs.lemmas.List.Folds.{length-prefix_len}
 use Rattle.car_index.specs.Index.{EntryParts, Run, before_runs, runs}
 
--- how many entries of this key stand at the front
+-- how many entries at the front have this key
 abbrev pub front_of : (EntryParts → ℕ) → ℕ → List EntryParts → ℕ
 front_of key n es = prefix_len (λ e. key e == n) es
 
 module _ (key : EntryParts → ℕ) where
-  -- the first run, and those after it, where it has so many entries after the first
+  -- the first run, and those after it, if it has n entries
   abbrev split_there : EntryParts → List EntryParts → ℕ → List Run
   split_there e es n = (key e, take n (e ∷ es)) ∷ runs key (drop n (e ∷ es))
 

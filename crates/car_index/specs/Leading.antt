@@ -1,4 +1,4 @@
--- Where an index of sorted entries leads.
+-- Look-ups in an index of sorted entries.
 use Rattle.std.specs.Prelude.{◌≡◌, ℕ, ◌+◌, ◌^◌, ◌<◌, ◌≤◌, List, ◌∷◌, ◌++◌, length, drop, Some}
 use Rattle.std.specs.Prelude.{IsSorted}
 use Rattle.std.specs.List.{AllByRecursion}
@@ -6,11 +6,11 @@ use Rattle.car_index.specs.Index.{EntryParts, width_of, entry_cmp, index_bytes}
 use Rattle.car_index.specs.Lookup.{find_bucket, EndsWithin, IsFirst, IsEntryOf}
 use Rattle.car_index.specs.declared.find.Bucket.{Bucket}
 
--- the first entry is of the multihash of the second
+-- both entries have the same multihash
 abbrev pub IsAlike : EntryParts → EntryParts → Type 0
 IsAlike d e = (d.hash_code ≡ e.hash_code) × (d.digest ≡ e.digest)
 
--- the entry stands among these, and so many of its multihash before it
+-- the entry is in the list, after k others with its multihash
 pub record StandsAmong (es : List EntryParts) (e : EntryParts) (k : ℕ) : Type 0 where
   pub before : List EntryParts
   pub same : List EntryParts
@@ -20,11 +20,11 @@ pub record StandsAmong (es : List EntryParts) (e : EntryParts) (k : ℕ) : Type 
   pub alike : AllByRecursion (λ d. IsAlike d e) same
   pub count : k ≡ length same
 
--- an index has room for the numbers of the entry
+-- the numbers of the entry fit into the fields of an index
 abbrev pub HasRoom : EntryParts → Type 0
 HasRoom e = (e.hash_code < 2 ^ 64) × (width_of e < 2 ^ 32) × (e.offset < 2 ^ 64)
 
--- the index of these entries, which are sorted, stands at this place
+-- the index of these entries, which are sorted, is at this place
 pub record IsIndexAt (b : List ℕ) (place : ℕ) (es : List EntryParts) : Type 0 where
   pub sorted : IsSorted entry_cmp es
   pub room : AllByRecursion HasRoom es
@@ -33,7 +33,7 @@ pub record IsIndexAt (b : List ℕ) (place : ℕ) (es : List EntryParts) : Type 
   pub there : drop place b ≡ index_bytes es ++ more
   pub fits : length b < 2 ^ 64
 
--- The entries of one multihash are found in their order, from the first on.
+-- The entries of one multihash are found in their order, beginning with the first.
 abbrev pub IndexLeads : Type 0
 IndexLeads = (b : List ℕ) (index : ℕ) (es : List EntryParts) (e : EntryParts) (k : ℕ)
     → IsIndexAt b index es → StandsAmong es e k → (bucket : Bucket)

@@ -1,4 +1,4 @@
-//! The bytes of an index.
+//! Encodes an index.
 
 ghost use Rattle.std.specs.Prelude.{◌≡◌, ◌++◌, OnOk, IfOk, flat_map};
 ghost use Rattle.std.specs.Int.{w32, w64, to_le_bytes};
@@ -9,17 +9,17 @@ use crate::entry::Entry;
 use crate::run::{Key, count_runs, split_run};
 use std::alloc::{AllocError, Global};
 
-/// The varint of the format: entries by multihashes.
+/// The varint of the format MultihashIndexSorted (0x0401).
 const BY_MULTIHASH: [u8; 2] = [0x81, 0x08];
 
-/// Appends a number of eight bytes.
+/// Appends a number as eight bytes, little-endian.
 fn push_number(out: &mut Vec<u8>, number: u64) -> Result<(), AllocError>
     ensures { OnOk result (out.new.items ≡ out.old.items ++ to_le_bytes w64 number) }
 {
     out.extend_from_slice(&number.to_le_bytes())
 }
 
-/// Appends an entry.
+/// Appends an entry: its digest, and its offset.
 fn push_entry(out: &mut Vec<u8>, entry: &Entry) -> Result<(), AllocError>
     ensures { OnOk result (out.new.items ≡ out.old.items ++ entry_bytes entry.now) }
 {
@@ -37,7 +37,8 @@ fn push_entries(out: &mut Vec<u8>, entries: &[Entry]) -> Result<(), AllocError>
     Ok(())
 }
 
-/// Appends a count. No memory holds more than 2^31 - 1 runs of other keys.
+/// Appends a count as four bytes, little-endian. No memory holds more than 2^31 - 1 runs of
+/// different keys.
 fn push_count(out: &mut Vec<u8>, count: usize) -> Result<(), AllocError>
     ensures { OnOk result (out.new.items ≡ out.old.items ++ to_le_bytes w32 count) }
 {
@@ -47,7 +48,7 @@ fn push_count(out: &mut Vec<u8>, count: usize) -> Result<(), AllocError>
     out.extend_from_slice(&(count as u32).to_le_bytes())
 }
 
-/// Appends the entries of this width.
+/// Appends the bucket of these entries, which all have this width.
 fn push_bucket(out: &mut Vec<u8>, width: u64, entries: &[Entry]) -> Result<(), AllocError>
     ensures { OnOk result (out.new.items ≡ out.old.items ++ bucket_bytes (width, entries.now)) }
 {
@@ -59,7 +60,7 @@ fn push_bucket(out: &mut Vec<u8>, width: u64, entries: &[Entry]) -> Result<(), A
     push_entries(out, entries)
 }
 
-/// Appends the runs of one width, after their count.
+/// Appends the number of widths, and the bucket of each.
 fn push_buckets(out: &mut Vec<u8>, entries: &[Entry]) -> Result<(), AllocError>
     ensures { OnOk result (out.new.items ≡ out.old.items ++ buckets_bytes entries.now) }
 {
@@ -72,7 +73,7 @@ fn push_buckets(out: &mut Vec<u8>, entries: &[Entry]) -> Result<(), AllocError>
     Ok(())
 }
 
-/// Appends the entries of this hash code.
+/// Appends the entries of this hash code, after it.
 fn push_code(out: &mut Vec<u8>, code: u64, entries: &[Entry]) -> Result<(), AllocError>
     ensures { OnOk result (out.new.items ≡ out.old.items ++ code_bytes (code, entries.now)) }
 {
@@ -80,7 +81,7 @@ fn push_code(out: &mut Vec<u8>, code: u64, entries: &[Entry]) -> Result<(), Allo
     push_buckets(out, entries)
 }
 
-/// Appends the runs of one hash code, after their count.
+/// Appends the number of hash codes, and the entries of each.
 fn push_codes(out: &mut Vec<u8>, entries: &[Entry]) -> Result<(), AllocError>
     ensures { OnOk result (out.new.items ≡ out.old.items ++ codes_bytes entries.now) }
 {
@@ -93,7 +94,7 @@ fn push_codes(out: &mut Vec<u8>, entries: &[Entry]) -> Result<(), AllocError>
     Ok(())
 }
 
-/// The index of entries that are sorted, by multihashes.
+/// Encodes an index of the format MultihashIndexSorted. The entries have to be sorted.
 pub fn encode_index(alloc: Global, entries: &[Entry]) -> Result<Vec<u8>, AllocError>
     ensures { IfOk result (λ v. v.items ≡ index_bytes entries.now) }
 {

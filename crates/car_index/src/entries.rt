@@ -1,4 +1,4 @@
-//! The entries of an index, which anyone may have made.
+//! Reads the entries of an index that anyone may have made.
 
 ghost use Rattle.std.specs.Prelude.{◌≡◌, ◌≤◌, ◌-◌, length, drop, None, IfSome};
 ghost use Rattle.std.specs.Int.{w32, w64};
@@ -11,34 +11,34 @@ use crate::read_at::{ReadAt, buffered_from};
 use std::alloc::{AllocError, Global};
 use std::io::Read;
 
-/// How the entries of an index are parted.
+/// The format of an index: how it groups its entries.
 #[derive(Clone, Copy, Debug, PartialEq, Eq)]
 pub enum Format {
-    /// By their width alone (0x0400, IndexSorted).
+    /// Entries are grouped by width only (0x0400, IndexSorted).
     ByWidth,
-    /// By their hash code, and then by their width (0x0401, MultihashIndexSorted).
+    /// Entries are grouped by hash code, and then by width (0x0401, MultihashIndexSorted).
     ByMultihash,
 }
 
-/// Why bytes are no index.
+/// Why bytes are not an index.
 #[derive(Clone, Copy, Debug, PartialEq, Eq)]
 pub enum IndexFault {
-    /// They end before the index does.
+    /// The bytes end before the index does.
     Truncated,
-    /// They begin as no format that is known.
+    /// The bytes begin with no known format.
     UnknownFormat,
-    /// An entry has less than the 8 bytes of its offset, or a digest of more than 64.
+    /// An entry is shorter than its offset of 8 bytes, or its digest has more than 64 bytes.
     Width,
-    /// A hash code or a width is not above the one before it.
+    /// A hash code or a width is not greater than the one before it.
     Order,
-    /// The entries of one width end within an entry.
+    /// The length of a bucket is not a multiple of the width of its entries.
     Length,
 }
 
-/// Why no index was read.
+/// Why an index was not read.
 #[derive(Clone, Copy, Debug, PartialEq, Eq)]
 pub enum IndexError {
-    /// The source failed.
+    /// The source returned an I/O error.
     Read,
     OutOfMemory,
     Fault(IndexFault),
@@ -50,27 +50,27 @@ impl From<AllocError> for IndexError {
     }
 }
 
-/// An index.
+/// An index that was read.
 #[derive(Drop)]
 pub struct Listing {
     pub format: Format,
-    /// In the order in which they stand. Their hash code is 0 where entries stand by their width alone.
+    /// The entries, in the order of the index. In the format `ByWidth` their hash code is 0.
     pub entries: Vec<Entry>,
 }
 
-/// The varint of the format in which entries stand by their width alone.
+/// The varint of the format IndexSorted (0x0400).
 const BY_WIDTH: [u8; 2] = [0x80, 0x08];
 
-/// The varint of the format in which they stand by their hash code before that.
+/// The varint of the format MultihashIndexSorted (0x0401).
 const BY_MULTIHASH: [u8; 2] = [0x81, 0x08];
 
-/// How many bytes an offset has.
+/// The length of an offset, in bytes.
 const OFFSET_LENGTH: usize = 8;
 
 /// The greatest width of an entry: a digest of 64 bytes, and an offset.
 const WIDEST: usize = 72;
 
-/// Fills the room with the next bytes.
+/// Fills the whole buffer with the next bytes.
 fn pull<R: Read>(input: &mut R, room: &mut [u8]) -> Result<(), IndexError>
     ensures { Pulls (R.remaining input.old) result room.new (R.remaining input.new) }
 {
@@ -87,7 +87,7 @@ fn pull<R: Read>(input: &mut R, room: &mut [u8]) -> Result<(), IndexError>
     Ok(())
 }
 
-/// Takes a number of four bytes.
+/// Takes a number of four bytes, little-endian.
 fn pull_count<R: Read>(input: &mut R) -> Result<u32, IndexError>
     ensures { PullsNumber w32 (R.remaining input.old) result (R.remaining input.new) }
 {
@@ -96,7 +96,7 @@ fn pull_count<R: Read>(input: &mut R) -> Result<u32, IndexError>
     Ok(u32::from_le_bytes(room))
 }
 
-/// Takes a number of eight bytes.
+/// Takes a number of eight bytes, little-endian.
 fn pull_number<R: Read>(input: &mut R) -> Result<u64, IndexError>
     ensures { PullsNumber w64 (R.remaining input.old) result (R.remaining input.new) }
 {
@@ -105,7 +105,7 @@ fn pull_number<R: Read>(input: &mut R) -> Result<u64, IndexError>
     Ok(u64::from_le_bytes(room))
 }
 
-/// The entry that these bytes are: a digest, and an offset.
+/// Returns the entry with these bytes: a digest, and an offset of 8 bytes.
 fn entry_of(code: u64, bytes: &[u8]) -> Entry
     requires { (8 ≤ length bytes.now) × (length bytes.now ≤ 72) }
     ensures { result ≡ entry_in code (length bytes.now - 8) bytes.now }
@@ -116,7 +116,7 @@ fn entry_of(code: u64, bytes: &[u8]) -> Entry
     }
 }
 
-/// Takes an entry of this width.
+/// Takes an entry of this width, and appends it.
 fn push_entry<R: Read>(
     code: u64,
     width: usize,
@@ -136,7 +136,7 @@ fn push_entry<R: Read>(
     }
 }
 
-/// Takes so many entries of this width.
+/// Takes `count` entries of this width, and appends them.
 fn push_entries<R: Read>(
     code: u64,
     width: usize,
@@ -155,7 +155,7 @@ fn push_entries<R: Read>(
     Ok(())
 }
 
-/// Whether the hash code or the width is above the one before it.
+/// Returns whether the hash code or width is greater than the one before it, if there is one.
 fn rises(last: Option<u64>, key: u64) -> bool
     ensures { result ≡ rises last key }
 {
@@ -165,7 +165,8 @@ fn rises(last: Option<u64>, key: u64) -> bool
     }
 }
 
-/// Takes the entries of this width, which have so many bytes. Answers the width.
+/// Takes the entries of a bucket of this width and size in bytes, and appends them. Returns the
+/// width.
 fn push_bucket_of<R: Read>(
     code: u64,
     last: Option<u64>,
@@ -190,7 +191,7 @@ fn push_bucket_of<R: Read>(
     Ok(width)
 }
 
-/// Takes the entries of one width. Answers the width.
+/// Takes a bucket, and appends its entries. Returns their width.
 fn push_bucket<R: Read>(
     code: u64,
     last: Option<u64>,
@@ -205,7 +206,7 @@ fn push_bucket<R: Read>(
     push_bucket_of(code, last, u64::from(width), size, input, entries)
 }
 
-/// Takes the entries of so many widths.
+/// Takes `count` buckets, and appends their entries.
 fn push_widths<R: Read>(
     code: u64,
     count: u32,
@@ -222,7 +223,7 @@ fn push_widths<R: Read>(
     Ok(())
 }
 
-/// Takes the entries of each width.
+/// Takes the number of buckets, and then the buckets, and appends their entries.
 fn push_buckets<R: Read>(
     code: u64,
     input: &mut R,
@@ -235,7 +236,7 @@ fn push_buckets<R: Read>(
     push_widths(code, count, input, entries)
 }
 
-/// Takes the entries of this hash code. Answers it.
+/// Takes the entries of this hash code, and appends them. Returns the hash code.
 fn push_code_of<R: Read>(
     last: Option<u64>,
     code: u64,
@@ -252,7 +253,7 @@ fn push_code_of<R: Read>(
     Ok(code)
 }
 
-/// Takes the entries of one hash code. Answers it.
+/// Takes a hash code and its entries, and appends them. Returns the hash code.
 fn push_code<R: Read>(
     last: Option<u64>,
     input: &mut R,
@@ -265,7 +266,7 @@ fn push_code<R: Read>(
     push_code_of(last, code, input, entries)
 }
 
-/// Takes the entries of so many hash codes.
+/// Takes `count` hash codes and their entries, and appends these.
 fn push_count<R: Read>(
     count: u32,
     input: &mut R,
@@ -281,7 +282,7 @@ fn push_count<R: Read>(
     Ok(())
 }
 
-/// Takes the entries of each hash code.
+/// Takes the number of hash codes, and then each with its entries, and appends these.
 fn push_codes<R: Read>(input: &mut R, entries: &mut Vec<Entry>) -> Result<(), IndexError>
     ensures { IfSome (R.remaining input.old) (λ b. Lists any_last (codes_part b)
         entries.old.items result entries.new.items (R.remaining input.new)) }
@@ -290,7 +291,7 @@ fn push_codes<R: Read>(input: &mut R, entries: &mut Vec<Entry>) -> Result<(), In
     push_count(count, input, entries)
 }
 
-/// Takes the index after its format.
+/// Takes the rest of an index, after its format.
 fn pull_listing<R: Read>(
     alloc: Global,
     format: [u8; 2],
@@ -313,7 +314,7 @@ fn pull_listing<R: Read>(
     Ok(Listing { format, entries })
 }
 
-/// Takes an index.
+/// Takes a whole index.
 fn pull_index<R: Read>(alloc: Global, input: &mut R) -> Result<Listing, IndexError>
     ensures { IfSome (R.remaining input.old) (λ b. IsRead (index_entries b) result) }
 {
@@ -322,7 +323,8 @@ fn pull_index<R: Read>(alloc: Global, input: &mut R) -> Result<Listing, IndexErr
     pull_listing(alloc, format, input)
 }
 
-/// The index at a place. It is read once, and no memory is reserved for what it announces.
+/// Reads the index at a place. The source is read once. No memory is reserved for counts that the
+/// index announces.
 pub fn read_index<S: ReadAt>(alloc: Global, source: &S, place: u64) -> Result<Listing, IndexError>
     ensures { IfSome (S.bytes source.now) (λ b. IsRead (index_entries (drop place b)) result) }
 {

@@ -12,10 +12,11 @@ use ipld_tree::Cid;
 use std::cmp::Ordering;
 use std::marker::Model;
 
-/// The greatest length of a digest.
+/// The greatest length of a digest, in bytes.
 const LONGEST_DIGEST: usize = 64;
 
-/// Where the section of a multihash begins, counted from the first byte of the file of version 1.
+/// An entry: a multihash, and where its section begins, counted from the first byte of the file of
+/// version 1.
 #[derive(Debug, Drop)]
 pub struct Entry {
     hash_code: u64,
@@ -36,14 +37,14 @@ impl Model for Entry {
 }
 
 impl Entry {
-    /// The entry of a section of this name, before which so many bytes stand.
+    /// Returns the entry of a section with this name at this offset.
     pub fn new(cid: &Cid, offset: u64) -> Entry
         ensures hash_code { result.hash_code ≡ cid.now.hash_code }
         ensures digest { result.digest ≡ cid.now.digest }
         ensures offset { result.offset ≡ offset }
     {
         let mut digest = ArrayVec::new();
-        // No digest is longer. The proof reads that from this use of the name.
+        // The contract of `version` tells the proof that a digest has at most 64 bytes.
         let _version = cid.version();
         digest.try_extend_from_slice(cid.digest()).unwrap();
         Entry {
@@ -53,7 +54,7 @@ impl Entry {
         }
     }
 
-    /// The entry of a section with this hash code and digest, before which so many bytes stand.
+    /// Returns the entry of a section with this hash code and digest at this offset.
     pub fn of_digest(hash_code: u64, digest: &[u8], offset: u64) -> Entry
         requires { length digest.now ≤ 64 }
         ensures hash_code { result.hash_code ≡ hash_code }
@@ -69,21 +70,21 @@ impl Entry {
         }
     }
 
-    /// The same entry once more.
+    /// Returns a copy of the entry.
     pub fn copied(&self) -> Entry
         ensures { result ≡ self.now }
     {
         Entry::of_digest(self.hash_code, self.digest(), self.offset)
     }
 
-    /// The code of the hash function.
+    /// Returns the code of the hash function.
     pub fn hash_code(&self) -> u64
         ensures { result ≡ self.now.hash_code }
     {
         self.hash_code
     }
 
-    /// The digest, of at most 64 bytes.
+    /// Returns the digest, of at most 64 bytes.
     pub fn digest(&self) -> &[u8]
         ensures digest { result.now ≡ self.now.digest }
         ensures short { length self.now.digest ≤ 64 }
@@ -91,7 +92,7 @@ impl Entry {
         self.digest.as_slice()
     }
 
-    /// How many bytes of the file of version 1 stand before the section.
+    /// Returns the offset of the section: how many bytes of the file of version 1 come before it.
     pub fn offset(&self) -> u64
         ensures { result ≡ self.now.offset }
     {

@@ -1,4 +1,4 @@
-//! Where an index, which anyone may have made, says that the sections of a multihash begin.
+//! Looks up where the sections of a multihash begin, in an index that anyone may have made.
 
 ghost use Rattle.std.specs.Prelude.{◌≡◌, ◌+◌, ◌<◌, ◌≤◌, ◌^◌, ◌-◌, min, length, MatchOption};
 ghost use Rattle.std.specs.Int.{w16};
@@ -14,19 +14,19 @@ use crate::read_at::ReadAt;
 use std::cmp::Ordering;
 use std::io;
 
-/// The varint of the format in which entries stand by their width alone, as a number of two bytes.
+/// The varint of the format IndexSorted (0x0400), as a number of two bytes.
 const BY_WIDTH: u16 = 0x0880;
 
-/// The varint of the format in which they stand by their hash code before that.
+/// The varint of the format MultihashIndexSorted (0x0401), as a number of two bytes.
 const BY_MULTIHASH: u16 = 0x0881;
 
-/// How many bytes stand before the entries of one width.
+/// The length of a bucket's head, in bytes: a width, and a length.
 const BUCKET_HEAD: u64 = 12;
 
-/// The greatest length of a digest.
+/// The greatest length of a digest, in bytes.
 const LONGEST_DIGEST: usize = 64;
 
-/// Entries of one width, one after the other.
+/// A bucket: entries of one width, one after another.
 #[derive(Clone, Copy, Drop)]
 pub struct Bucket {
     begin: u64,
@@ -34,7 +34,8 @@ pub struct Bucket {
     count: u64,
 }
 
-/// The entries of this width that begin at a place and have so many bytes, and the place after them.
+/// Returns the bucket of this width that begins at a place and has this length in bytes, and the
+/// place after it. `None` if the width is below 8, or the bucket would end at 2^64 or above.
 fn bucket_of(begin: u64, width: u64, length: u64) -> Option<(Bucket, u64)>
     ensures { result ≡ bucket_of begin width length }
 {
@@ -54,7 +55,7 @@ fn bucket_of(begin: u64, width: u64, length: u64) -> Option<(Bucket, u64)>
     }
 }
 
-/// The entries of a width, and the place after them. `place` is where their head stands.
+/// Returns the bucket whose head is at a place, and the place after the bucket.
 fn bucket_at<S: ReadAt>(source: &S, place: u64) -> io::Result<Option<(Bucket, u64)>>
     ensures { Looks (S.bytes source.now) result (λ b r. r ≡ bucket_at b place) }
 {
@@ -68,7 +69,8 @@ fn bucket_at<S: ReadAt>(source: &S, place: u64) -> io::Result<Option<(Bucket, u6
     Ok(bucket_of(begin, u64::from(width), length))
 }
 
-/// The entries of this width, if there are some: their heads stand after their count.
+/// Returns the first bucket of this width, of those whose count is at the place. `None` if there is
+/// none.
 fn bucket_in<S: ReadAt>(source: &S, place: u64, width: u64) -> io::Result<Option<Bucket>>
     ensures { Looks (S.bytes source.now) result (λ b r. r ≡ bucket_in b width place) }
 {
@@ -86,7 +88,7 @@ fn bucket_in<S: ReadAt>(source: &S, place: u64, width: u64) -> io::Result<Option
     Ok(None)
 }
 
-/// The place after the entries of each width.
+/// Returns the place after all buckets whose count is at the place.
 fn behind_buckets<S: ReadAt>(source: &S, place: u64) -> io::Result<Option<u64>>
     ensures { Looks (S.bytes source.now) result (λ b r. r ≡ after_buckets b place) }
 {
@@ -103,7 +105,8 @@ fn behind_buckets<S: ReadAt>(source: &S, place: u64) -> io::Result<Option<u64>>
     Ok(Some(next))
 }
 
-/// The entries of this width under this hash code, if there are some.
+/// Returns the bucket of this width under this hash code. `None` if there is none. The count of
+/// hash codes is at the place.
 fn bucket_under<S: ReadAt>(
     source: &S,
     place: u64,
@@ -132,7 +135,7 @@ fn bucket_under<S: ReadAt>(
     Ok(None)
 }
 
-/// The number of two bytes at a place. None where the bytes end before.
+/// Returns the number of two bytes at a place. `None` if the bytes end before it does.
 fn format_at<S: ReadAt>(source: &S, place: u64) -> io::Result<Option<u16>>
     ensures { ReadsNumber w16 (S.bytes source.now) place result }
 {
@@ -144,7 +147,8 @@ fn format_at<S: ReadAt>(source: &S, place: u64) -> io::Result<Option<u16>>
     }
 }
 
-/// The entries among which those of this digest stand, in the index at a place.
+/// Returns the bucket in which the entries of this digest are, in the index at a place. `None` if
+/// there is none.
 pub fn find_bucket<S: ReadAt>(
     source: &S,
     index: u64,
@@ -168,14 +172,15 @@ pub fn find_bucket<S: ReadAt>(
 }
 
 impl Bucket {
-    /// Where the entry of this number begins. No bytes stand as far on as where such a sum stops.
+    /// Returns where the entry with this number begins. A sum that saturates is after all bytes.
     fn place_of(&self, number: u64) -> u64
         ensures { result ≡ min (entry_place self.now number) (2 ^ 64 - 1) }
     {
         self.begin.saturating_add(number.saturating_mul(self.width))
     }
 
-    /// How the digest of the entry of this number compares with this one.
+    /// Returns how the digest of the entry with this number compares with this one. `None` if the
+    /// bytes end before that digest does.
     fn compare<S: ReadAt>(
         &self,
         source: &S,
@@ -196,7 +201,8 @@ impl Bucket {
         Ok(Some((&*read).cmp(digest)))
     }
 
-    /// How many entries stand before the first whose digest is not below this one.
+    /// Returns how many entries come before the first whose digest is not below this one, if the
+    /// digests ascend. `None` if the bytes end within an entry's digest.
     pub fn first_of<S: ReadAt>(&self, source: &S, digest: &[u8]) -> io::Result<Option<u64>>
         requires { length digest.now ≤ 64 }
         ensures { Looks (S.bytes source.now) result (FindsFirst self.now digest.now) }
@@ -214,7 +220,7 @@ impl Bucket {
         Ok(Some(low))
     }
 
-    /// The offset of the entry of this number, if its digest is this one.
+    /// Returns the offset of the entry with this number. `None` if its digest is not this one.
     pub fn offset_of<S: ReadAt>(
         &self,
         source: &S,

@@ -1,5 +1,5 @@
-//! An index is judged: whether each entry is that of a section, whether they stand in order, and whether an
-//! entry leads to each section.
+//! Checks an index against the sections of its file: that each entry is right, that the entries are
+//! in order, and that an entry leads to each section.
 
 ghost use Rattle.std.specs.Prelude.{◌≡◌, ◌↔◌, ◌++◌, ◌∷◌, [], if◌then◌else◌, IsTrue, IfOk, OnOk, IsPermutation, IsSorted, map, not};
 ghost use Rattle.std.specs.List.{filter};
@@ -14,26 +14,26 @@ use crate::entry::Entry;
 use ipld_tree::Cid;
 use std::alloc::{AllocError, Global};
 
-/// The name of a section, and how many bytes of the file of version 1 stand before it.
+/// The name of a section, and its offset: how many bytes of the file of version 1 come before it.
 #[derive(Clone, Copy, Drop)]
 pub struct Placed {
     pub cid: Cid,
     pub offset: u64,
 }
 
-/// What is wrong with an index.
+/// The faults of an index.
 #[derive(Drop)]
 pub struct Findings {
-    /// Entries that are those of no section.
+    /// Entries that belong to no section.
     pub wrong: Vec<Entry>,
-    /// Entries whose digest is below that of the entry before them.
+    /// Entries whose multihash is below that of the entry before them.
     pub unordered: Vec<Entry>,
-    /// Sections to which no right entry leads.
+    /// Sections whose multihash no right entry has.
     pub unlisted: Vec<Placed>,
 }
 
 impl Findings {
-    /// Whether there are none.
+    /// Returns whether nothing is wrong.
     pub fn is_empty(&self) -> bool
         ensures { IsTrue result ↔ ((self.now.wrong.items ≡ []) × (self.now.unordered.items ≡ [])
             × (self.now.unlisted.items ≡ [])) }
@@ -42,13 +42,13 @@ impl Findings {
     }
 }
 
-/// How an index of this format lists the section.
+/// Returns the entry of the section in an index of this format.
 fn listed_as(format: Format, section: &Placed) -> Entry
     ensures { result ≡ listed_as format section.now }
 {
     match format {
         Format::ByWidth => {
-            // No digest is longer than 64 bytes. The proof reads that from this use of the name.
+            // The contract of `version` tells the proof that a digest has at most 64 bytes.
             let _version = section.cid.version();
             Entry::of_digest(0, section.cid.digest(), section.offset)
         }
@@ -56,14 +56,14 @@ fn listed_as(format: Format, section: &Placed) -> Entry
     }
 }
 
-/// The multihash of the section.
+/// Returns the multihash of the section, as an entry with the offset 0.
 fn multihash_of(section: &Placed) -> Entry
     ensures { result ≡ multihash_of section.now }
 {
     Entry::new(&section.cid, 0)
 }
 
-/// Whether the entry is one of these, which are sorted.
+/// Returns whether the entry is in the list, which is sorted.
 fn is_entry_of(sorted: &[Entry], entry: &Entry) -> bool
     requires { IsSorted entry_cmp sorted.now }
     ensures { result ≡ is_entry_of sorted.now entry.now }
@@ -71,7 +71,7 @@ fn is_entry_of(sorted: &[Entry], entry: &Entry) -> bool
     sorted.binary_search(entry).is_ok()
 }
 
-/// The entries that a right index of this format has of these sections, sorted.
+/// Returns the entries of these sections in a right index of this format, sorted.
 fn right_entries(
     alloc: Global,
     format: Format,
@@ -88,7 +88,7 @@ fn right_entries(
     Ok(entries)
 }
 
-/// Appends the entry, if it is none of the right ones, which are sorted.
+/// Appends the entry, if it is not among the right ones, which are sorted.
 fn push_wrong(out: &mut Vec<Entry>, right: &[Entry], entry: &Entry) -> Result<(), AllocError>
     requires { IsSorted entry_cmp right.now }
     ensures { OnOk result (out.new.items ≡ out.old.items
@@ -100,7 +100,7 @@ fn push_wrong(out: &mut Vec<Entry>, right: &[Entry], entry: &Entry) -> Result<()
     Ok(())
 }
 
-/// Those of the entries that are none of the right ones, which are sorted.
+/// Returns those entries that are not among the right ones, which are sorted.
 fn wrong_among(alloc: Global, entries: &[Entry], right: &[Entry]) -> Result<Vec<Entry>, AllocError>
     requires { IsSorted entry_cmp right.now }
     ensures { IfOk result (λ v. v.items
@@ -113,7 +113,7 @@ fn wrong_among(alloc: Global, entries: &[Entry], right: &[Entry]) -> Result<Vec<
     Ok(wrong)
 }
 
-/// The entries that are those of no section.
+/// Returns the entries that belong to no section.
 fn wrong(alloc: Global, listing: &Listing, sections: &[Placed]) -> Result<Vec<Entry>, AllocError>
     ensures { IfOk result (λ v. v.items
         ≡ wrong listing.now.format listing.now.entries.items sections.now) }
@@ -122,7 +122,7 @@ fn wrong(alloc: Global, listing: &Listing, sections: &[Placed]) -> Result<Vec<En
     wrong_among(alloc, &listing.entries, &right)
 }
 
-/// Whether the second has the lesser multihash.
+/// Returns whether the second entry has the lesser multihash.
 fn falls(last: &Entry, entry: &Entry) -> bool
     ensures { result ≡ is_lt (multihash_cmp entry.now last.now) }
 {
@@ -134,7 +134,7 @@ fn falls(last: &Entry, entry: &Entry) -> bool
         .is_lt()
 }
 
-/// Appends the second, if it has the lesser multihash.
+/// Appends the second entry, if it has the lesser multihash.
 fn push_fallen(out: &mut Vec<Entry>, last: &Entry, entry: &Entry) -> Result<(), AllocError>
     ensures { OnOk result (out.new.items ≡ out.old.items ++ fallen last.now entry.now) }
 {
@@ -144,7 +144,7 @@ fn push_fallen(out: &mut Vec<Entry>, last: &Entry, entry: &Entry) -> Result<(), 
     Ok(())
 }
 
-/// The entries whose digest is below that of the entry before them.
+/// Returns the entries whose multihash is below that of the entry before them.
 fn unordered(alloc: Global, entries: &[Entry]) -> Result<Vec<Entry>, AllocError>
     ensures { IfOk result (λ v. v.items ≡ unordered entries.now) }
 {
@@ -155,7 +155,7 @@ fn unordered(alloc: Global, entries: &[Entry]) -> Result<Vec<Entry>, AllocError>
     Ok(out)
 }
 
-/// Appends the multihash of the section, if that has one of these entries, which are sorted.
+/// Appends the multihash of the section, if its entry is in the list, which is sorted.
 fn push_listed(
     out: &mut Vec<Entry>,
     format: Format,
@@ -173,7 +173,7 @@ fn push_listed(
     Ok(())
 }
 
-/// The multihashes of those sections that have one of these entries, which are sorted. They are sorted.
+/// Returns the multihashes, sorted, of those sections whose entry is in the list, which is sorted.
 fn listed_names(
     alloc: Global,
     format: Format,
@@ -193,7 +193,8 @@ fn listed_names(
     Ok(names)
 }
 
-/// Whether the section is of none of these multihashes, which are sorted.
+/// Returns whether the section's multihash is not in the list, which is sorted. A name by the
+/// identity is never unlisted.
 fn is_unlisted(names: &[Entry], section: &Placed) -> bool
     requires { IsSorted entry_cmp names.now }
     ensures { result ≡ is_unlisted names.now section.now }
@@ -201,7 +202,7 @@ fn is_unlisted(names: &[Entry], section: &Placed) -> bool
     section.cid.hash_code() != 0 && !is_entry_of(names, &multihash_of(section))
 }
 
-/// Appends the section, if it is of none of these multihashes, which are sorted.
+/// Appends the section, if it is unlisted: its multihash is not in the list, which is sorted.
 fn push_unlisted(out: &mut Vec<Placed>, names: &[Entry], section: &Placed) -> Result<(), AllocError>
     requires { IsSorted entry_cmp names.now }
     ensures { OnOk result (out.new.items ≡ out.old.items
@@ -213,7 +214,7 @@ fn push_unlisted(out: &mut Vec<Placed>, names: &[Entry], section: &Placed) -> Re
     Ok(())
 }
 
-/// Those of the sections that are of none of these multihashes, which are sorted.
+/// Returns the unlisted sections: those whose multihash is not in the list, which is sorted.
 fn unlisted_among(
     alloc: Global,
     names: &[Entry],
@@ -229,7 +230,7 @@ fn unlisted_among(
     Ok(out)
 }
 
-/// The sections to whose multihash no right entry leads.
+/// Returns the sections whose multihash no right entry has.
 fn unlisted(alloc: Global, listing: Listing, sections: &[Placed]) -> Result<Vec<Placed>, AllocError>
     ensures { IfOk result (λ v. v.items
         ≡ unlisted listing.format listing.entries.items sections.now) }
@@ -243,7 +244,7 @@ fn unlisted(alloc: Global, listing: Listing, sections: &[Placed]) -> Result<Vec<
     unlisted_among(alloc, &names, sections)
 }
 
-/// Judges an index against the sections of its file.
+/// Checks an index against the sections of its file.
 pub fn judge(alloc: Global, listing: Listing, sections: &[Placed]) -> Result<Findings, AllocError>
     ensures { IfOk result (AreFindings listing.format listing.entries.items sections.now) }
 {

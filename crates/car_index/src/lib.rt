@@ -1,5 +1,5 @@
-//! The index of a CAR file of version 2: where the section of each multihash begins; and bytes
-//! that are read at places.
+//! The index of a CAR file of version 2: where the section of each multihash begins. Also reads
+//! bytes at places.
 #![tactic(auto)]
 
 mod encode;

@@ -1,4 +1,4 @@
-//! Bytes and numbers at places.
+//! Reads bytes and numbers at places.
 
 ghost use Rattle.std.specs.Prelude.{◌≡◌, ◌<◌, length};
 ghost use Rattle.std.specs.Int.{w32, w64};
@@ -7,13 +7,13 @@ ghost use Rattle.car_index.specs.Places.{FillsFrom, ReadsNumber};
 use crate::read_at::ReadAt;
 use std::io;
 
-/// Fills the room with the bytes at a place, and answers whether there are as many.
+/// Fills the buffer with the bytes at a place. Returns whether there were enough.
 pub fn fill<S: ReadAt>(source: &S, place: u64, room: &mut [u8]) -> io::Result<bool>
     ensures { FillsFrom (S.bytes source.now) place result room.new }
 {
     let mut filled = 0;
     while filled < room.len() {
-        // No bytes stand as far on as where such a sum stops.
+        // A sum that saturates is after all bytes.
         let next = place.saturating_add(filled as u64);
         let count = source.read_at(&mut room[filled..], next)?;
         if count == 0 {
@@ -24,7 +24,8 @@ pub fn fill<S: ReadAt>(source: &S, place: u64, room: &mut [u8]) -> io::Result<bo
     Ok(true)
 }
 
-/// The number of eight bytes at a place. None where the bytes end before.
+/// Reads the number of eight bytes, little-endian, at a place. `None` if the bytes end before it
+/// does.
 pub fn number_at<S: ReadAt>(source: &S, place: u64) -> io::Result<Option<u64>>
     ensures { ReadsNumber w64 (S.bytes source.now) place result }
 {
@@ -36,7 +37,8 @@ pub fn number_at<S: ReadAt>(source: &S, place: u64) -> io::Result<Option<u64>>
     }
 }
 
-/// The number of four bytes at a place. None where the bytes end before.
+/// Reads the number of four bytes, little-endian, at a place. `None` if the bytes end before it
+/// does.
 pub fn count_at<S: ReadAt>(source: &S, place: u64) -> io::Result<Option<u32>>
     ensures { ReadsNumber w32 (S.bytes source.now) place result }
 {

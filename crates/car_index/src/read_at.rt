@@ -1,4 +1,4 @@
-//! Bytes that are read at places.
+//! Sources whose bytes are read at places.
 
 ghost use Rattle.std.specs.Prelude.{◌≡◌, ◌<◌, ◌^◌, ◌∷◌, length, drop, Some, IfSome, IfOk, List, ℕ, Option, None};
 ghost use Rattle.std.specs.Option.{option_map};
@@ -13,24 +13,24 @@ use std::io;
 use std::io::{BufReader, ErrorKind, Read};
 use std::os::unix::fs::FileExt;
 
-/// What is read at places, and stays as it is.
+/// A source that is read at places, and does not change.
 pub trait ReadAt {
-    /// The bytes, where they are known.
+    /// The bytes, if they are known.
     ghost bytes: { Self → Option (List ℕ) } = { λ _. None };
 
-    /// Reads some bytes from the place on, and answers how many: none after the last.
+    /// Reads some bytes, beginning at the place. Returns how many: 0 after the last byte.
     fn read_at(&self, buf: &mut [u8], place: u64) -> io::Result<usize>
         ensures bound { ReadsAtMost result buf.new }
         ensures bytes { ReadsThere (bytes self.now) place result buf.new }
         ensures fits { IfSome (bytes self.now) (λ b. length b < 2 ^ 64) };
 }
 
-/// No file has a byte here.
+/// The length that no file exceeds.
 const FILES_END: u64 = i64::MAX as u64;
 
 impl ReadAt for File {
     fn read_at(&self, buf: &mut [u8], place: u64) -> io::Result<usize> {
-        // A read that goes on past that place is an error of the system.
+        // A read past that place is an error of the system.
         if place >= FILES_END {
             return Ok(0);
         }
@@ -51,7 +51,7 @@ impl ReadAt for &[u8] {
     }
 }
 
-/// The bytes from a place on.
+/// A reader of the bytes of a source, beginning at a place.
 #[derive(Drop)]
 pub struct Rest<'a, S> {
     source: &'a S,
@@ -82,7 +82,7 @@ impl<S: ReadAt> Read for Rest<'_, S> {
     }
 }
 
-/// A buffered reader of the bytes from a place on.
+/// Returns a buffered reader of the bytes beginning at a place.
 pub fn buffered_from<S: ReadAt>(
     alloc: Global,
     source: &S,

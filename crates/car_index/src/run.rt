@@ -1,4 +1,4 @@
-//! Entries of one key, that stand one after the other.
+//! Runs: entries with the same key, one after another.
 
 ghost use Rattle.std.specs.Prelude.{◌≡◌, ◌==◌, ◌∷◌, [], ◌<◌, ◌≤◌, length, take_while, MatchOption};
 ghost use Rattle.car_index.specs.Index.{runs};
@@ -6,14 +6,14 @@ ghost use Rattle.car_index.specs.Keys.{key_of};
 
 use crate::entry::Entry;
 
-/// By what entries are parted.
+/// The key that entries are grouped by.
 #[derive(Clone, Copy)]
 pub(crate) enum Key {
     HashCode,
     Width,
 }
 
-/// Entries of one key, and those after them.
+/// The first run of entries: their key, the entries, and those after them.
 #[derive(Clone, Copy)]
 pub(crate) struct Front<'a> {
     pub key: u64,
@@ -21,10 +21,10 @@ pub(crate) struct Front<'a> {
     pub behind: &'a [Entry],
 }
 
-/// How many bytes an offset has.
+/// The length of an offset, in bytes.
 const OFFSET_LENGTH: u64 = 8;
 
-/// The key of an entry.
+/// Returns the key of an entry.
 fn key_of(key: Key, entry: &Entry) -> u64
     ensures { result ≡ key_of key entry.now }
 {
@@ -34,7 +34,7 @@ fn key_of(key: Key, entry: &Entry) -> u64
     }
 }
 
-/// How many entries stand at the front that are of this key.
+/// Returns how many entries at the front have this key.
 fn count_of(key: Key, number: u64, entries: &[Entry]) -> usize
     ensures count { result ≡ length (take_while (λ e. key_of key e == number) entries.now) }
     ensures within { result ≤ length entries.now }
@@ -45,7 +45,7 @@ fn count_of(key: Key, number: u64, entries: &[Entry]) -> usize
         .count()
 }
 
-/// The first run of the entries, if there is one.
+/// Returns the first run of the entries. `None` if there are no entries.
 pub(crate) fn split_run(key: Key, entries: &[Entry]) -> Option<Front<'_>>
     ensures { MatchOption result (entries.now ≡ []) (λ f. (length f.behind.now < length entries.now)
         × (runs (key_of key) entries.now ≡ (f.key, f.entries.now) ∷ runs (key_of key) f.behind.now)) }
@@ -62,7 +62,7 @@ pub(crate) fn split_run(key: Key, entries: &[Entry]) -> Option<Front<'_>>
     })
 }
 
-/// How many runs there are.
+/// Returns how many runs the entries have.
 pub(crate) fn count_runs(key: Key, entries: &[Entry]) -> usize
     ensures { result ≡ length (runs (key_of key) entries.now) }
 {

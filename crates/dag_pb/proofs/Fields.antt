@@ -13,7 +13,7 @@ use Rattle.dag_pb.specs.Causes.{StopsIn}
 use Rattle.dag_pb.proofs.Varints.{one_varint}
 use Rattle.dag_pb.proofs.Stopping.{stops_behind}
 
--- ---- what stands first
+-- ---- the field at the front
 
 pub none_in_nothing : BeginsNoVarint []
 none_in_nothing n rest (form, v, e) = by form v.groups e
@@ -36,7 +36,7 @@ one_bytes b t u p q r s (c, h, k) (d, i, j) =
 pub bytes_parts : (t : ℕ) (b p r : List ℕ) → BeginsWithBytes t b p r → (front : List ℕ) × (b ≡ front ++ (p ++ r))
 bytes_parts t b p r (c, (f, v, e), (g, w, d)) = (f ++ g, e ∙ ap (λ x. f ++ x) d ∙ sym (append_assoc f g (p ++ r)))
 
--- ---- whether anything stands there
+-- ---- whether there is a field
 
 pub empty_there : (b : List ℕ) (t : Bool) → t ≡ nat_eq (length b) 0 → t ≡ true → b ≡ []
 empty_there b t is h = by b (eqb-true (length b) 0 (sym is ∙ h))
@@ -81,7 +81,7 @@ stops_at_cid b form rest fault h f = let k = bytes_parts 0x0a b form rest h in (
 pub size_in_nothing : (b : List ℕ) → b ≡ [] → MayBeNumber 0x18 b None
 size_in_nothing b e = e
 
--- no field of a size stands there
+-- the bytes are not a field of a size
 abbrev pub IsNoSize : List ℕ → Type 0
 IsNoSize b = (size : Option ℕ) → MayBeNumber 0x18 b size → ⊥
 

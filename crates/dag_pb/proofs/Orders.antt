@@ -6,7 +6,7 @@ use Rattle.dag_pb.specs.Orders.{order_after}
 use Rattle.dag_pb.specs.declared.node.Order.{Order}
 use Rattle.dag_pb.specs.declared.node.Order.TheVariants.{Nothing, Links, DataFirst, DataLast}
 
--- what stood before these fields, and they; none where one of them can't stand there
+-- the order after these fields too; `None` if one of them may not come there
 abbrev pub orders : Option Order → List Field → Option Order
 orders None fields = None
 orders (Some o) [] = Some o
@@ -17,7 +17,7 @@ orders-append None fs gs = refl
 orders-append (Some o) [] gs = refl
 orders-append (Some o) (f ∷ fs) gs = orders-append (order_after o f) fs gs
 
--- ---- what is a node has an order
+-- ---- the fields of a node have an order
 
 behind_links : (ls : List LinkParts) → orders (Some Links) (map link_field ls) ≡ Some Links
 behind_links [] = refl
@@ -45,7 +45,7 @@ pub node_order : (fs : List Field) (node : NodeParts) → AreFieldsOf fs node �
 node_order fs node (inl e) = subst HasOrder (sym e) (links_first node.links node.«data»)
 node_order fs node (inr e) = subst HasOrder (sym e) (data_first node.links node.«data»)
 
--- ---- what has an order is a node
+-- ---- fields that have an order are a node
 
 nothing_behind : (fs : List Field) (o : Order) → orders (Some DataLast) fs ≡ Some o → fs ≡ []
 nothing_behind [] o e = refl

@@ -32,7 +32,7 @@ link_room xs i d inner at old now h room place stands =
     let bs = first_links xs i in
     omega (arith, room, place, first_within xs (i + 1) inner, ap length (one_more xs i d h), length-append bs (link_spelling (link_of (get_or xs i d))), ap length stands, length-append bs (drop (length bs) old), length-drop (length bs) old)
 
--- bytes after those that stand at the front
+-- bytes are put after those at the front
 put_next : (bs s old now new : List ℕ) (at end : ℕ) → length bs + length s ≤ length old → at ≡ length bs → now ≡ bs ++ drop (length bs) old → PutsAt s at now new end → (end ≡ length (bs ++ s)) × (new ≡ (bs ++ s) ++ drop (length (bs ++ s)) old)
 put_next bs s old now new at end room place stands p = (
   omega (arith, p.0, place, length-append bs s),

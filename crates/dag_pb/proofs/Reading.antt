@@ -9,7 +9,7 @@ use Rattle.dag_pb.specs.declared.node.Order.TheVariants.{Nothing}
 use Rattle.dag_pb.proofs.Orders.{orders, orders-append, node_order, order_node, node_links_in}
 use Rattle.dag_pb.proofs.Rows.{one_field, field_there, row_end, row_left, row_first, row_over, one_row}
 
--- these fields stand before the rest
+-- the fields before the rest
 pub record IsReadTo (b : List ℕ) (order : Order) (rest : List ℕ) : Type 0 where
   pub before : List Field
   pub row : BeginsWithFields b before rest
@@ -30,14 +30,14 @@ all_read b order rest r over =
     let k = order_node r.before order r.order_is in
     (k.0, (r.before, subst (BeginsWithFields b r.before) over r.row, k.1))
 
--- no field stands there, and something does
+-- if bytes are left that begin with no field, the whole is not a node
 pub no_node : (b : List ℕ) (order : Order) (rest : List ℕ) → IsReadTo b order rest → rest ≢ [] → BeginsNoField rest → HasNode b → ⊥
 no_node b order rest r there none (node, (fields, row, is)) =
     let left = row_left b r.before fields rest r.row row in
     let first = row_first rest left.0 there left.2 in
     none first.0 first.2 first.4
 
--- the field that stands there can't
+-- if the next field may not come there, the whole is not a node
 pub no_node_so : (b : List ℕ) (order : Order) (rest behind : List ℕ) (f : Field) → IsReadTo b order rest → rest ≢ [] → BeginsWithField rest f behind → ◌≡◌ {A = Option Order} None (order_after order f) → HasNode b → ⊥
 no_node_so b order rest behind f r there h none (node, (fields, row, is)) =
     let left = row_left b r.before fields rest r.row row in
@@ -53,14 +53,14 @@ no_node_so b order rest behind f r there h none (node, (fields, row, is)) =
 
 -- ---- the links
 
--- the field that stands first is that of the row
+-- the field at the front is the first of the row
 pub field_found : (b : List ℕ) (field : Field) (behind : List ℕ) (row : List Field) → BeginsWithField b field behind → BeginsWithFields b row [] → (more : List Field) × BeginsWithFields behind more [] × (row ≡ field ∷ more)
 field_found b field behind row h k =
     let first = row_first b row (field_there b field behind h) k in
     let one = one_field b first.0 field first.2 behind first.4 h in
     (first.1, subst (λ x. BeginsWithFields x first.1 []) one.1 first.5, first.3 ∙ ap (λ g. g ∷ first.1) one.0)
 
--- where the bytes are fields, the rest is fields with the same links
+-- if the bytes are fields, the rest is fields with the same links
 abbrev pub HasSameLinks : List ℕ → List ℕ → Type 0
 HasSameLinks b rest = (row : List Field) → BeginsWithFields b row []
     → (more : List Field) × BeginsWithFields rest more [] × (links_in row ≡ links_in more)
@@ -83,7 +83,7 @@ link_found b rest behind link same h row k =
 pub none_left : (b rest : List ℕ) → HasSameLinks b rest → rest ≡ [] → (row : List Field) → BeginsWithFields b row [] → links_in row ≡ []
 none_left b rest same over row k = let s = same row k in s.2 ∙ ap links_in (row_over rest s.0 over s.1)
 
--- some field stands there
+-- bytes that are fields, and are not empty, begin with a field
 pub field_stands : (b : List ℕ) → b ≢ [] → BeginsNoField b → ((row : List Field) × BeginsWithFields b row []) → ⊥
 field_stands b there none (row, k) = let first = row_first b row there k in none first.0 first.2 first.4
 

@@ -37,7 +37,7 @@ pub no_link_field : (b message behind : List ℕ) → BeginsWithBytes 0x12 b mes
 no_link_field b message behind h none (link_field link) rest (other, k, m) = none link (subst (λ x. IsLink x link) (sym (one_bytes b 0x12 0x12 message other behind rest h k).1) m)
 no_link_field b message behind h none (data_field inner) rest k = absurd (omega (arith, (one_bytes b 0x12 0x0a message inner behind rest h k).0))
 
--- what stops a reader of a link's message
+-- a stop in a link's message is a stop in the whole
 pub stops_in_message : (b message behind : List ℕ) (stop : Stop) → BeginsWithBytes 0x12 b message behind → StopsIn message stop → StopsIn b (record { cause = stop.cause; left = stop.left + length behind })
 stops_in_message b message behind stop h (before, at, rest, is, left, cause) =
     let k = bytes_parts 0x12 b message behind h in (
@@ -102,7 +102,7 @@ pub field_shorter : (b : List ℕ) (f : Field) (r : List ℕ) → BeginsWithFiel
 field_shorter b (link_field k) r (m, h, l) = bytes_shorter 0x12 b m r h
 field_shorter b (data_field p) r h = bytes_shorter 0x0a b p r h
 
--- what follows a link is shorter by more than its CID
+-- the bytes after a link are shorter than the whole by more than its CID
 pub link_shorter : (b : List ℕ) (link : LinkParts) (r : List ℕ) → BeginsWithField b (link_field link) r → length (cid_bytes link.hash) + length r < length b
 link_shorter b link r (m, (c, (f, v, e), (g, w, d)), l) =
     let k = bytes_parts 0x0a m (cid_bytes link.hash) l.behind l.hash in
@@ -125,7 +125,7 @@ row_parts b (f ∷ fs) rest (c, h, k) =
     let t = row_parts c fs rest k in
     (s.0 ++ t.0, s.1 ∙ ap (λ x. s.0 ++ x) t.1 ∙ sym (append_assoc s.0 t.0 rest))
 
--- what a row begins with, and what is left of it
+-- if a row begins with these fields, the rest of it is left
 pub row_left : (b : List ℕ) (fs gs : List Field) (rest : List ℕ) → BeginsWithFields b fs rest → BeginsWithFields b gs [] → (hs : List Field) × (gs ≡ fs ++ hs) × BeginsWithFields rest hs []
 row_left b [] gs rest e k = (gs, refl, subst (λ x. BeginsWithFields x gs []) e k)
 row_left b (f ∷ fs) [] rest (c, h, i) k = absurd (field_there b f c h k)

@@ -24,7 +24,7 @@ less : (b : Bool) → false ≡ not b → b ≡ false → ⊥
 less true e f = cc f
 less false e f = cc e
 
--- of two neighbours in the links
+-- the order of two neighbours among the links
 at_two : (xs : List PbLink) (x : PbLink) (k : ℕ) (d : LinkParts) → k + 1 < length xs
     → ascend (get_or (map link_of xs) k d) (get_or (map link_of xs) (k + 1) d) ≡ links_ascend (get_or xs k x) (get_or xs (k + 1) x)
 at_two xs x k d here =

@@ -4,11 +4,11 @@ use Rattle.dag_pb.specs.declared.error.PbCause.{PbCause}
 use Rattle.dag_pb.specs.declared.stop.Stop.{Stop}
 use Rattle.dag_pb.specs.Causes.{IsCause, StopsIn}
 
--- the cause stands before all the bytes
+-- the cause is at the front of the bytes
 pub stops_here : (b : List ℕ) (cause : PbCause) (stop : Stop) → stop ≡ record { cause = cause; left = length b } → IsCause cause b → StopsIn b stop
 stops_here b cause stop is h = subst (StopsIn b) (sym is) ([], b, [], sym (append-nil b), omega arith, h)
 
--- what stops a reader of the rest stops one of the whole
+-- a stop in the rest is a stop in the whole
 pub stops_behind : (b front rest : List ℕ) (stop : Stop) → b ≡ front ++ rest → StopsIn rest stop → StopsIn b stop
 stops_behind b front rest stop e (before, at, behind, is, left, h) = (
   front ++ before,

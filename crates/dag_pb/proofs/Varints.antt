@@ -30,7 +30,7 @@ pub high_end : (xs : List ℕ) (group : ℕ) → AreOpen xs → 128 ≤ group �
 high_end [] group high_bits high = (high, tt)
 high_end (x ∷ xs) group high_bits high = (high_bits.0, high_end xs group high_bits.1 high)
 
--- one form stands first
+-- bytes begin with one form only
 pub one_form : (s t x y : List ℕ) → AreGroups s → AreGroups t → s ++ x ≡ t ++ y → (s ≡ t) × (x ≡ y)
 one_form [] t x y h k e = absurd h
 one_form (a ∷ s) [] x y h k e = absurd k
@@ -43,13 +43,13 @@ one_form (a ∷ c ∷ s) (b ∷ d ∷ t) x y h k e =
     let first : a ≡ b = cc e in
     ((λ i. first i ∷ same.0 i), same.1)
 
--- one number stands first
+-- bytes begin with one number only
 pub one_varint : (b : List ℕ) (m n : ℕ) (x y : List ℕ) → BeginsWithVarint b m x → BeginsWithVarint b n y → (m ≡ n) × (x ≡ y)
 one_varint b m n x y (s, p, e) (t, q, f) =
     let same = one_form s t x y p.groups q.groups (sym e ∙ f) in
     (p.number ∙ ap number_of same.0 ∙ sym q.number, same.1)
 
--- after groups with the high bit stands what is left of a form
+-- after groups with the high bit, the rest of a form is left
 pub form_left : (xs t y z : List ℕ) → AreOpen xs → AreGroups t → t ++ y ≡ xs ++ z → (u : List ℕ) × (t ≡ xs ++ u) × AreGroups u × (u ++ y ≡ z)
 form_left [] t y z high_bits h e = (t, refl, h, e)
 form_left (x ∷ xs) [] y z high_bits h e = absurd h
@@ -60,11 +60,11 @@ form_left (x ∷ xs) (a ∷ c ∷ t) y z high_bits h e =
     let first : a ≡ x = cc e in
     (k.0, (λ i. first i ∷ k.1 i), k.2, k.3)
 
--- no count stands first where no number does
+-- bytes that begin with no number begin with no counted bytes either
 pub none_counted : (b : List ℕ) → BeginsNoVarint b → BeginsNoCounted b
 none_counted b none inner rest h = none (length inner) (inner ++ rest) h
 
--- nor where fewer bytes follow
+-- if fewer bytes follow than the number counts, the bytes are cut
 pub fewer_counted : (b : List ℕ) (n : ℕ) (rest : List ℕ) → BeginsWithVarint b n rest → length rest < n → BeginsNoCounted b × IsCut b
 fewer_counted b n rest h few = (none, inr (n, rest, h, few))
   where
@@ -162,7 +162,7 @@ last_read bytes i number unit group bits r here is short low is_bits = (fits, (t
         sym (take-append-drop (i + 1) bytes)
         ∙ ap (λ b. b ++ drop (i + 1) bytes) (take_more bytes i 0 here ∙ ap (λ g. take i bytes ++ g ∷ []) (sym is))
 
--- a group of more than one bit at the place 9: no number is so large, whatever follows
+-- a group of more than one bit at the place 9 is of no number, whatever follows
 pub none_so_large : (bytes : List ℕ) (number unit group : ℕ) (i : ℕ) → IsRead bytes i number unit → i < length bytes → group ≡ get_or bytes i 0 → i ≡ 9 → 1 < group → (more : List ℕ) → BeginsNoVarint (bytes ++ more)
 none_so_large bytes number unit group i r here is nine large more n rest (t, v, e) =
     let split : t ++ rest ≡ take i bytes ++ (drop i bytes ++ more) = sym e ∙ ap (λ b. b ++ more) (sym (take-append-drop i bytes)) ∙ append_assoc (take i bytes) (drop i bytes) more in
@@ -185,7 +185,7 @@ none_so_large bytes number unit group i r here is nine large more n rest (t, v, 
         omega (arith, value, unit_nine, v.number ∙ ap number_of f, v.fits, bits, same, large)
     by (a ∷ c ∷ u) f h g = omega (arith, ap length f, length-append (take i bytes) (a ∷ c ∷ u), long, v.short)
 
--- where all bytes have the high bit, a zero would end a form
+-- if all bytes have the high bit, the bytes are cut: a zero would end a form
 pub all_read : (bytes : List ℕ) (i number unit : ℕ) → IsRead bytes i number unit → length bytes ≤ i → BeginsNoVarint bytes × IsCut bytes
 all_read bytes i number unit r past = (none, inl (none, (number, 0 ∷ [], (bytes ++ 0 ∷ [], form, sym (append-nil (bytes ++ 0 ∷ []))))))
   where
@@ -242,6 +242,6 @@ sum_fits bytes i number unit group bits r low byte is = by (cases_eq i 9)
         let bound = r.below in
         omega (arith, most, part, bound)
 
--- none whatever follows: none where nothing does
+-- if no number begins whatever follows, no number begins if nothing follows
 pub none_alone : (b : List ℕ) → ((more : List ℕ) → BeginsNoVarint (b ++ more)) → BeginsNoVarint b
 none_alone b none n rest h = none [] n rest (subst (λ x. BeginsWithVarint x n rest) (sym (append-nil b)) h)

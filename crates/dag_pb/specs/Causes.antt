@@ -1,4 +1,4 @@
--- Why bytes are no block of DAG-PB, and where.
+-- Why bytes are not a block of DAG-PB, and where.
 use Rattle.std.specs.Prelude.{◌≡◌, ◌⊎◌, ℕ, ◌+◌, ◌<◌, List, [], ◌++◌, length}
 use Rattle.ipld_tree.specs.CidFault.{IsFault}
 use Rattle.dag_pb.specs.Varint.{BeginsWithVarint, BeginsNoVarint}
@@ -8,12 +8,12 @@ use Rattle.dag_pb.specs.declared.error.PbCause.TheVariants.{Truncated, InvalidVa
 use Rattle.dag_pb.specs.declared.error.PbError.{PbError}
 use Rattle.dag_pb.specs.declared.stop.Stop.{Stop}
 
--- the bytes end inside a number, or before as many follow as it says
+-- the bytes end inside a number, or before the bytes that it counts end
 abbrev pub IsCut : List ℕ → Type 0
 IsCut at = (BeginsNoVarint at × ((n : ℕ) × (more : List ℕ) × BeginsWithVarint (at ++ more) n []))
     ⊎ ((n : ℕ) × (rest : List ℕ) × BeginsWithVarint at n rest × (length rest < n))
 
--- the cause stands at the front of what is left of a message
+-- the cause is at the front of these bytes, the rest of a message
 abbrev pub IsCause : PbCause → List ℕ → Type 0
 IsCause Truncated at = IsCut at
 IsCause InvalidVarint at = (more : List ℕ) → BeginsNoVarint (at ++ more)
@@ -21,8 +21,8 @@ IsCause (UnexpectedField tag) at = (rest : List ℕ) × BeginsWithVarint at tag 
 IsCause NoHash at = at ≡ []
 IsCause (InvalidCid fault) at = IsFault fault at
 
--- somewhere in the bytes a message, or the CID in it, is left, and the rest follows; and the cause stands
--- at the front of what is left. So many bytes are left there
+-- `left` bytes are left, and the cause is at their front: in the rest of a message, or of the CID
+-- in it, after which other bytes follow
 abbrev pub CauseIn : PbCause → List ℕ → ℕ → Type 0
 CauseIn cause b left = (before at behind : List ℕ) × (b ≡ before ++ (at ++ behind))
     × (left ≡ length at + length behind) × IsCause cause at
@@ -30,6 +30,6 @@ CauseIn cause b left = (before at behind : List ℕ) × (b ≡ before ++ (at ++ 
 abbrev pub StopsIn : List ℕ → Stop → Type 0
 StopsIn b stop = CauseIn stop.cause b stop.left
 
--- the bytes are no block of DAG-PB, for this cause, which follows so many of them
+-- the bytes are not a block of DAG-PB, for this cause at this place
 abbrev pub IsNoNode : List ℕ → PbError → Type 0
 IsNoNode b e = ¬ HasNode b × ((left : ℕ) × (e.place + left ≡ length b) × CauseIn e.cause b left)

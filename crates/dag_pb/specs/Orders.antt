@@ -4,7 +4,7 @@ use Rattle.dag_pb.specs.Node.{Field, link_field, data_field}
 use Rattle.dag_pb.specs.declared.node.Order.{Order}
 use Rattle.dag_pb.specs.declared.node.Order.TheVariants.{Nothing, Links, DataFirst, DataLast}
 
--- what stood before the field, and it; none where it can't stand there
+-- the order after this field too; `None` if the field may not come here
 abbrev pub order_after : Order → Field → Option Order
 order_after Nothing (data_field inner) = Some DataFirst
 order_after Nothing (link_field link) = Some Links
@@ -14,7 +14,7 @@ order_after DataFirst (link_field link) = Some DataFirst
 order_after DataFirst (data_field inner) = None
 order_after DataLast field = None
 
--- the tag that it has
+-- the tag of a field
 abbrev pub field_tag : Field → ℕ
 field_tag (link_field link) = 0x12
 field_tag (data_field inner) = 0x0a

@@ -1,11 +1,11 @@
--- What the code has of links and fields.
+-- The parts that the code's links and fields stand for.
 use Rattle.std.specs.Prelude.{ℕ, List, [], ◌∷◌, map, Option, option_map}
 use Rattle.dag_pb.specs.Node.{LinkParts, NodeParts, Field, link_field, data_field}
 use Rattle.dag_pb.specs.declared.link.PbLink.{PbLink}
 use Rattle.dag_pb.specs.declared.field.PbField.{PbField}
 use Rattle.dag_pb.specs.declared.field.PbField.TheVariants.{Link, Data}
 
--- what the link holds
+-- the parts of a link
 abbrev pub link_of : PbLink → LinkParts
 link_of link = record {
   hash = link.hash;
@@ -13,7 +13,7 @@ link_of link = record {
   tsize = link.tsize;
 }
 
--- what the field holds
+-- the field of the format
 abbrev pub field_of : PbField → Field
 field_of (Link link) = link_field (link_of link)
 field_of (Data inner) = data_field inner.now

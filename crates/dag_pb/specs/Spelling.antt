@@ -1,5 +1,5 @@
--- The one form of a node that encoders write (DAG-PB specification): the links first and then the data,
--- each number in its shortest form, and no bytes for what is left out.
+-- The one form of a node that encoders write (DAG-PB specification): the links and then the data,
+-- each number in its shortest form, and no bytes for parts that are left out.
 use Rattle.std.specs.Prelude.{◌≢◌, ℕ, ◌^◌, ◌<◌, List, [], ◌∷◌, ◌++◌, Option, None, Some, length, unwrap_or, IfSome, flat_map, IsSortedByKey}
 use Rattle.std.specs.List.{AllByRecursion}
 use Rattle.std.specs.Ordering.{nat_cmp}
@@ -11,15 +11,15 @@ use Rattle.dag_pb.specs.declared.error.PbEncodeError.TheVariants.{OutOfMemory, U
 
 -- ---- fields
 
--- how many bytes there are, and these
+-- the length of the bytes, and the bytes
 abbrev pub counted : List ℕ → List ℕ
 counted b = varint (length b) ++ b
 
--- a field of bytes: its tag, how many bytes there are, and these
+-- a field of bytes: its tag, the length of the bytes, and the bytes
 abbrev pub bytes_field : ℕ → List ℕ → List ℕ
 bytes_field tag inner = tag ∷ counted inner
 
--- the field of a name, of a size and of data, each of which may be left out
+-- the field of a name, of a size and of data: no bytes if it is left out
 abbrev pub name_field : Option (List ℕ) → List ℕ
 name_field None = []
 name_field (Some name) = bytes_field 0x12 name
@@ -47,30 +47,30 @@ link_spelling link = bytes_field 0x12 (link_message link)
 abbrev pub node_spelling : NodeParts → List ℕ
 node_spelling node = flat_map link_spelling node.links ++ data_field_bytes node.«data»
 
--- ---- which nodes have one
+-- ---- which nodes can be encoded
 
--- a name that is left out counts as the empty one
+-- the name that a link is sorted by: the empty one if it has none
 abbrev pub sort_name : LinkParts → List ℕ
 sort_name link = unwrap_or link.name []
 
--- the links ascend by the bytes of their names; those of one name come in any order
+-- the links are sorted by the bytes of their names; those with the same name have any order
 abbrev pub AreSorted : List LinkParts → Type 0
 AreSorted = IsSortedByKey sort_name (slice_cmp nat_cmp)
 
--- the link leads to a CID, and its size and the length of its message are below 2 ^ 64
+-- the link has a CID, and its size and the length of its message are below 2 ^ 64
 pub record IsSpellableLink (link : LinkParts) : Type 0 where
   pub valid : AreCidParts link.hash
   pub size : IfSome link.tsize (λ tsize. tsize < 2 ^ 64)
   pub fits : length (link_message link) < 2 ^ 64
 
--- all links are such, and the length of the data is below 2 ^ 64
+-- all links can be encoded, and the length of the data is below 2 ^ 64
 pub record IsSpellable (node : NodeParts) : Type 0 where
   pub links : AllByRecursion IsSpellableLink node.links
   pub inner : IfSome node.«data» (λ inner. length inner < 2 ^ 64)
 
--- ---- which are not written
+-- ---- which nodes are not encoded
 
--- the node is not written for this cause
+-- the node is not encoded, for this cause
 abbrev pub IsNotWritten : PbEncodeError → NodeParts → Type 0
 IsNotWritten UnsortedLinks node = ¬ AreSorted node.links
 IsNotWritten OutOfMemory node = AreSorted node.links × (node_spelling node ≢ [])

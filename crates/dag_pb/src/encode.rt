@@ -1,4 +1,4 @@
-//! The writer of blocks.
+//! Encodes blocks of DAG-PB.
 
 ghost use Rattle.std.specs.Prelude.{◌≡◌, ◌≢◌, [], ◌-◌, ◌≤◌, ◌^◌, min, length, option_map, map, not, MatchResult, MatchBool, IfOk};
 ghost use Rattle.std.specs.Ordering.{nat_cmp, is_lt};
@@ -13,9 +13,9 @@ use crate::link::PbLink;
 use crate::place::{data_length, link_length, put_data, put_link};
 use std::alloc::{AllocError, Global};
 
-/// The block of the node of these links and this data, in the one form that encoders write. Refuses
-/// links that are not sorted by the bytes of their names. A link without a name counts as one with the
-/// empty name, and links of one name may come in any order.
+/// Encodes the node of these links and this data, in the one form that encoders write. Refuses
+/// links that are not sorted by the bytes of their names. A link without a name counts as having
+/// the empty name. Links with the same name may come in any order.
 pub fn encode_node(
     alloc: Global,
     links: &[PbLink<'_>],
@@ -37,7 +37,7 @@ pub fn encode_node(
     }
 }
 
-/// The bytes of the node, in whatever order its links stand.
+/// Encodes the node, without a test of the order of its links.
 fn node_bytes(
     alloc: Global,
     links: &[PbLink<'_>],
@@ -58,7 +58,8 @@ fn node_bytes(
     Ok(block)
 }
 
-/// How many bytes the block of the node has, as far as that is counted. The sum has room for any links.
+/// Returns the length of the node's block in bytes, at most 2^64 - 1. The sum itself cannot
+/// overflow.
 fn node_length(links: &[PbLink<'_>], data: Option<&[u8]>) -> usize
     ensures counted { let node = node_of links.now (option_map (λ b. b.now) «data».entry) in
         result ≡ min (length (node_spelling node)) (2 ^ 64 - 1) }
@@ -72,7 +73,7 @@ fn node_length(links: &[PbLink<'_>], data: Option<&[u8]>) -> usize
     (count + inner).min(usize::MAX as u128) as usize
 }
 
-/// Puts the block of the node at the front of `out`.
+/// Writes the block of the node at the front of `out`.
 fn fill(links: &[PbLink<'_>], data: Option<&[u8]>, out: &mut [u8])
     requires { length (node_spelling (node_of links.now (option_map (λ b. b.now) «data»)))
         ≤ length out.old }
@@ -86,7 +87,7 @@ fn fill(links: &[PbLink<'_>], data: Option<&[u8]>, out: &mut [u8])
     put_data(out, at, data);
 }
 
-/// Whether the links ascend by their names.
+/// Returns whether the links are sorted by their names.
 fn are_sorted(links: &[PbLink<'_>]) -> bool
     ensures { MatchBool result (AreSorted (map link_of links.now))
         (¬ AreSorted (map link_of links.now)) }
@@ -94,7 +95,7 @@ fn are_sorted(links: &[PbLink<'_>]) -> bool
     links.is_sorted_by(|link, next| may_precede(link, next))
 }
 
-/// Whether the next link may come after this one.
+/// Returns whether `next` may come after `link`.
 fn may_precede(link: &PbLink<'_>, next: &PbLink<'_>) -> bool
     ensures { result ≡ not (is_lt (slice_cmp nat_cmp (sort_name (link_of next.now))
         (sort_name (link_of link.now)))) }

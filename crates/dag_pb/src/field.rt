@@ -10,10 +10,10 @@ use crate::link::{PbLink, read_link};
 use crate::stop::Stop;
 use crate::varint::{split_counted, split_varint};
 
-/// The tag of a link, field 2 and bytes.
+/// The tag of a link: field 2, of bytes.
 pub(crate) const LINK: u64 = 0x12;
 
-/// The tag of the data, field 1 and bytes.
+/// The tag of the data: field 1, of bytes.
 pub(crate) const DATA: u64 = 0x0a;
 
 /// A field of a node.
@@ -23,7 +23,7 @@ pub enum PbField<'a> {
     Data(&'a [u8]),
 }
 
-/// The field at the front, and the bytes after it.
+/// Returns the field at the front, and the bytes after it.
 pub(crate) fn split_field(bytes: &[u8]) -> Result<(PbField<'_>, &[u8]), Stop>
     ensures { MatchResult result
         (λ p. BeginsWithField bytes.now (field_of p.0) p.1.now)

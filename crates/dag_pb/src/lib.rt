@@ -1,5 +1,5 @@
-//! The blocks of DAG-PB: whether bytes are one, where its links lead, and the block of a node. Only
-//! `encode_node` takes memory.
+//! The blocks of DAG-PB: validates them, reads their fields and links, and encodes nodes. Only
+//! `encode_node` allocates.
 #![tactic(auto)]
 
 mod encode;

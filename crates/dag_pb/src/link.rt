@@ -12,27 +12,27 @@ use crate::stop::Stop;
 use crate::varint::{split_counted, split_varint};
 use ipld_tree::Cid;
 
-/// The tag of the CID, field 1 and bytes.
+/// The tag of the CID: field 1, of bytes.
 pub(crate) const HASH: u64 = 0x0a;
 
-/// The tag of the name, field 2 and bytes.
+/// The tag of the name: field 2, of bytes.
 pub(crate) const NAME: u64 = 0x12;
 
-/// The tag of the size, field 3 and a number.
+/// The tag of the size: field 3, a number.
 pub(crate) const TSIZE: u64 = 0x18;
 
 /// A link of a node.
 #[derive(Clone, Copy, Debug)]
 pub struct PbLink<'a> {
-    /// The name of the block that it leads to.
+    /// The CID of the block that the link leads to.
     pub hash: Cid,
-    /// The link's own name, which need not be UTF-8.
+    /// The name of the link, which need not be UTF-8.
     pub name: Option<&'a [u8]>,
-    /// The size of all blocks below it together, as who wrote it said.
+    /// The size of all blocks below the link together, as its author gave it.
     pub tsize: Option<u64>,
 }
 
-/// The link whose message the bytes are.
+/// Reads the bytes as the whole message of a link, and returns the link.
 pub(crate) fn read_link(message: &[u8]) -> Result<PbLink<'_>, Stop>
     ensures { MatchResult result
         (λ link. IsLink message.now (link_of link))
@@ -54,7 +54,7 @@ pub(crate) fn read_link(message: &[u8]) -> Result<PbLink<'_>, Stop>
     }
 }
 
-/// The name and the size that may follow the CID, and nothing else.
+/// Returns the name and the size after the CID, which must end the message. Either may be left out.
 fn read_link_end(bytes: &[u8]) -> Result<(Option<&[u8]>, Option<u64>), Stop>
     ensures { MatchResult result
         (λ p. IsLinkEnd bytes.now (option_map (λ b. b.now) p.0) p.1)
@@ -66,7 +66,7 @@ fn read_link_end(bytes: &[u8]) -> Result<(Option<&[u8]>, Option<u64>), Stop>
     Ok((name, tsize))
 }
 
-/// The field of bytes at the front, and the bytes after it.
+/// Returns the bytes of the field with this tag at the front, and the bytes after the field.
 fn split_bytes(tag: u64, bytes: &[u8]) -> Result<(&[u8], &[u8]), Stop>
     ensures { MatchResult result
         (λ p. BeginsWithBytes tag bytes.now p.0.now p.1.now)
@@ -79,7 +79,7 @@ fn split_bytes(tag: u64, bytes: &[u8]) -> Result<(&[u8], &[u8]), Stop>
     split_counted(behind)
 }
 
-/// The name that may stand first, and the bytes after it.
+/// Returns the name at the front, if there is one, and the bytes after it.
 fn split_name(bytes: &[u8]) -> Result<(Option<&[u8]>, &[u8]), Stop>
     ensures { MatchResult result
         (λ p. MayBeginWithBytes 0x12 bytes.now (option_map (λ b. b.now) p.0) p.1.now
@@ -98,7 +98,7 @@ fn split_name(bytes: &[u8]) -> Result<(Option<&[u8]>, &[u8]), Stop>
     Ok((Some(name), rest))
 }
 
-/// The size that may be there, and nothing else.
+/// Returns the size, if there is one. It must end the message.
 fn read_tsize(bytes: &[u8]) -> Result<Option<u64>, Stop>
     ensures { MatchResult result
         (λ size. MayBeNumber 0x18 bytes.now size)

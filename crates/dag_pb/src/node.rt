@@ -1,4 +1,4 @@
-//! The judge of blocks, and the walks over their fields and their links.
+//! Validates blocks, and walks over their fields and their links.
 
 ghost use Rattle.std.specs.Prelude.{◌≡◌, ◌+◌, ◌∷◌, [], ◌<◌, List, length, MatchResult, MatchOption, IfSome, OnOk, OnErr};
 ghost use Rattle.ipld_tree.specs.Cid.{cid_bytes};
@@ -12,7 +12,7 @@ use crate::field::{DATA, LINK, PbField, split_field};
 use crate::link::PbLink;
 use crate::stop::Stop;
 
-/// Which fields stood before.
+/// Which fields came before.
 #[derive(Copy, Clone, Debug)]
 enum Order {
     Nothing,
@@ -22,7 +22,7 @@ enum Order {
 }
 
 impl Order {
-    /// With this field after them. None where it can't stand there.
+    /// Returns the order after this field too. `None` if the field may not come here.
     fn after(self, field: &PbField<'_>) -> Option<Order>
         ensures { result ≡ order_after self (field_of field.now) }
     {
@@ -37,7 +37,7 @@ impl Order {
     }
 }
 
-/// Whether the bytes are a block of DAG-PB.
+/// Validates the bytes as a block of DAG-PB.
 pub fn check_node(block: &[u8]) -> Result<(), PbError>
     ensures { MatchResult result (λ _. HasNode block.now) (λ e. IsNoNode block.now e) }
 {
@@ -50,7 +50,7 @@ pub fn check_node(block: &[u8]) -> Result<(), PbError>
     }
 }
 
-/// Where the bytes stop being one.
+/// Returns where the bytes stop being a block. `None` if they are one.
 fn stop_in(block: &[u8]) -> Option<Stop>
     ensures { MatchOption result (HasNode block.now)
         (λ stop. ¬ HasNode block.now × StopsIn block.now stop) }
@@ -71,7 +71,7 @@ fn stop_in(block: &[u8]) -> Option<Stop>
     None
 }
 
-/// The tag of the field.
+/// Returns the tag of the field.
 fn tag_of(field: &PbField<'_>) -> u64
     ensures { result ≡ field_tag (field_of field.now) }
 {
@@ -81,7 +81,8 @@ fn tag_of(field: &PbField<'_>) -> u64
     }
 }
 
-/// The first field of fields in a row, and the fields after it.
+/// Returns the first field, and the fields after it. `None` if there are no more fields. The bytes
+/// have to be whole fields of a node.
 pub fn next_field(fields: &[u8]) -> Option<(PbField<'_>, &[u8])>
     requires { (row : List Field) × BeginsWithFields fields.now row [] }
     ensures field { (row : List Field) → BeginsWithFields fields.now row []
@@ -100,7 +101,8 @@ pub fn next_field(fields: &[u8]) -> Option<(PbField<'_>, &[u8])>
     Some(found)
 }
 
-/// The first link of fields in a row, and the fields after it.
+/// Returns the first link, and the fields after it. `None` if there are no more links. The bytes
+/// have to be whole fields of a node.
 pub fn next_link(fields: &[u8]) -> Option<(PbLink<'_>, &[u8])>
     requires { (row : List Field) × BeginsWithFields fields.now row [] }
     ensures link { (row : List Field) → BeginsWithFields fields.now row []

@@ -1,4 +1,4 @@
-//! Links and data, measured, and put at a place of memory that the caller lends.
+//! Measures links and data, and writes them into memory that the caller lends.
 
 ghost use Rattle.std.specs.Prelude.{◌≡◌, ◌++◌, ◌∷◌, ◌+◌, ◌<◌, ◌≤◌, ◌^◌, length, option_map, IfSome};
 ghost use Rattle.ipld_tree.specs.Cid.{varint};
@@ -12,7 +12,7 @@ use crate::link::{HASH, NAME, PbLink, TSIZE};
 use arrayvec::ArrayVec;
 use lent_memory::put;
 
-/// How many bytes the field of the link has.
+/// Returns the length of the link's field in bytes.
 pub fn link_length(link: &PbLink<'_>) -> usize
     ensures length { result ≡ length (link_spelling (link_of link.now)) }
     ensures few { result < 2 ^ 63 + 2 ^ 8 }
@@ -24,7 +24,7 @@ pub fn link_length(link: &PbLink<'_>) -> usize
     1 + varint_of(message as u64).len() + message
 }
 
-/// How many bytes the field of the data has.
+/// Returns the length of the data's field in bytes: 0 without data.
 pub fn data_length(data: Option<&[u8]>) -> usize
     ensures length { result ≡ length (data_field_bytes (option_map (λ b. b.now) «data».entry)) }
     ensures few { result < 2 ^ 63 + 2 ^ 8 }
@@ -36,7 +36,7 @@ pub fn data_length(data: Option<&[u8]>) -> usize
     }
 }
 
-/// Puts the field of the link at the place: the place after it.
+/// Writes the field of the link at `at`. Returns the place after it.
 pub fn put_link(out: &mut [u8], at: usize, link: &PbLink<'_>) -> usize
     requires { at + length (link_spelling (link_of link.now)) ≤ length out.old }
     ensures { PutsAt (link_spelling (link_of link.now)) at out.old out.new result }
@@ -46,7 +46,8 @@ pub fn put_link(out: &mut [u8], at: usize, link: &PbLink<'_>) -> usize
     put_linked(out, at, &hash, link.name, link.tsize)
 }
 
-/// Puts the field of the link that these bytes, this name and this size make.
+/// Writes the field of the link with this CID in binary form, this name and this size. Returns the
+/// place after it.
 fn put_linked(
     out: &mut [u8],
     at: usize,
@@ -67,7 +68,7 @@ fn put_linked(
     put_ends(out, behind, name, tsize)
 }
 
-/// Puts the field of the data at the place: the place after it.
+/// Writes the field of the data at `at`, if there are data. Returns the place after it.
 pub fn put_data(out: &mut [u8], at: usize, data: Option<&[u8]>) -> usize
     requires { at + length (data_field_bytes (option_map (λ b. b.now) «data»))
         ≤ length out.old }
@@ -80,7 +81,7 @@ pub fn put_data(out: &mut [u8], at: usize, data: Option<&[u8]>) -> usize
     }
 }
 
-/// Puts the fields of the name and of the size.
+/// Writes the fields of the name and the size. Returns the place after them.
 fn put_ends(out: &mut [u8], at: usize, name: Option<&[u8]>, tsize: Option<u64>) -> usize
     requires { at + length (name_field (option_map (λ b. b.now) name) ++ tsize_field tsize)
         ≤ length out.old }
@@ -91,7 +92,7 @@ fn put_ends(out: &mut [u8], at: usize, name: Option<&[u8]>, tsize: Option<u64>) 
     put_tsize(out, behind, tsize)
 }
 
-/// Puts the field of the name.
+/// Writes the field of the name, if there is one. Returns the place after it.
 fn put_name(out: &mut [u8], at: usize, name: Option<&[u8]>) -> usize
     requires { at + length (name_field (option_map (λ b. b.now) name)) ≤ length out.old }
     ensures { PutsAt (name_field (option_map (λ b. b.now) name.entry)) at out.old out.new result }
@@ -102,7 +103,7 @@ fn put_name(out: &mut [u8], at: usize, name: Option<&[u8]>) -> usize
     }
 }
 
-/// Puts the field of the size.
+/// Writes the field of the size, if there is one. Returns the place after it.
 fn put_tsize(out: &mut [u8], at: usize, tsize: Option<u64>) -> usize
     requires { at + length (tsize_field tsize) ≤ length out.old }
     ensures { PutsAt (tsize_field tsize) at out.old out.new result }
@@ -113,7 +114,7 @@ fn put_tsize(out: &mut [u8], at: usize, tsize: Option<u64>) -> usize
     }
 }
 
-/// Puts a field of bytes.
+/// Writes a field of bytes. Returns the place after it.
 fn put_bytes(out: &mut [u8], at: usize, tag: u8, inner: &[u8]) -> usize
     requires { at + length (bytes_field tag inner.now) ≤ length out.old }
     ensures { PutsAt (bytes_field tag inner.now) at out.old out.new result }
@@ -122,7 +123,7 @@ fn put_bytes(out: &mut [u8], at: usize, tag: u8, inner: &[u8]) -> usize
     put(out, behind, inner)
 }
 
-/// Puts a tag and a number.
+/// Writes a tag and a number. Returns the place after them.
 fn put_tagged(out: &mut [u8], at: usize, tag: u8, number: u64) -> usize
     requires { at + length (tag ∷ varint number) ≤ length out.old }
     ensures { PutsAt (tag ∷ varint number) at out.old out.new result }
@@ -131,7 +132,7 @@ fn put_tagged(out: &mut [u8], at: usize, tag: u8, number: u64) -> usize
     put(out, behind, &varint_of(number))
 }
 
-/// How many bytes the message of a link has.
+/// Returns the length of a link's message in bytes.
 fn message_length(hash: &[u8], name: Option<&[u8]>, tsize: Option<u64>) -> usize
     requires { length hash.now ≤ 86 }
     ensures length { result ≡ length (bytes_field 0x0a hash.now
@@ -142,7 +143,7 @@ fn message_length(hash: &[u8], name: Option<&[u8]>, tsize: Option<u64>) -> usize
     field_length(hash) + name_length(name) + tsize_length(tsize)
 }
 
-/// How many bytes the field of the name has.
+/// Returns the length of the name's field in bytes: 0 without a name.
 fn name_length(name: Option<&[u8]>) -> usize
     ensures length { result ≡ length (name_field (option_map (λ b. b.now) name.entry)) }
     ensures fits { result < 2 ^ 63 + 11 }
@@ -153,7 +154,7 @@ fn name_length(name: Option<&[u8]>) -> usize
     }
 }
 
-/// How many bytes the field of the size has.
+/// Returns the length of the size's field in bytes: 0 without a size.
 fn tsize_length(tsize: Option<u64>) -> usize
     ensures length { result ≡ length (tsize_field tsize) }
     ensures fits { result ≤ 11 }
@@ -165,7 +166,7 @@ fn tsize_length(tsize: Option<u64>) -> usize
     }
 }
 
-/// How many bytes a field of these bytes has.
+/// Returns the length of a field of these bytes.
 fn field_length(inner: &[u8]) -> usize
     ensures length { result ≡ 1 + length (counted inner.now) }
     ensures fits { result ≤ 11 + length inner.now }
@@ -173,7 +174,7 @@ fn field_length(inner: &[u8]) -> usize
     1 + varint_of(inner.len() as u64).len() + inner.len()
 }
 
-/// The groups of seven bits, the lowest first.
+/// Returns the varint of the number: groups of seven bits, the lowest first.
 fn varint_of(number: u64) -> ArrayVec<u8, 10>
     ensures { result.items ≡ varint number }
 {

@@ -1,10 +1,10 @@
-//! Where a reader stops.
+//! Where reading a block stops.
 
 ghost use Rattle.std.specs.Prelude.{◌≡◌, length};
 
 use crate::error::PbCause;
 
-/// Why a reader stops, and how many bytes are left before the cause.
+/// Why reading stops, and how many bytes are left from the cause on.
 #[derive(Copy, Clone)]
 pub struct Stop {
     pub cause: PbCause,
@@ -12,7 +12,7 @@ pub struct Stop {
 }
 
 impl Stop {
-    /// The cause stands before these bytes.
+    /// Returns a stop at the front of these bytes.
     pub fn before(cause: PbCause, bytes: &[u8]) -> Stop
         ensures { result ≡ record { cause = cause; left = length bytes.now } }
     {

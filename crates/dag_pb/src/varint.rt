@@ -1,4 +1,4 @@
-//! Numbers, and bytes after their count.
+//! Varints, and bytes after a varint that counts them.
 
 ghost use Rattle.std.specs.Prelude.{◌≡◌, ◌↔◌, ◌<◌, ◌++◌, length, IsTrue, MatchResult};
 ghost use Rattle.dag_pb.specs.Varint.{BeginsWithVarint, BeginsNoVarint, BeginsNoCounted};
@@ -7,10 +7,10 @@ ghost use Rattle.dag_pb.specs.Causes.{StopsIn};
 use crate::error::PbCause;
 use crate::stop::Stop;
 
-/// How many groups a number has before its last one, at most.
+/// The most bytes of a varint before its last one.
 const LAST_GROUP: usize = 9;
 
-/// The number at the front, and the bytes after it.
+/// Returns the number at the front, and the bytes after it.
 pub(crate) fn split_varint(bytes: &[u8]) -> Result<(u64, &[u8]), Stop>
     ensures { MatchResult result
         (λ p. BeginsWithVarint bytes.now p.0 p.1.now)
@@ -31,14 +31,15 @@ pub(crate) fn split_varint(bytes: &[u8]) -> Result<(u64, &[u8]), Stop>
     Err(Stop::before(PbCause::Truncated, bytes))
 }
 
-/// Whether no number has the group at this place: of the tenth only the lowest bit is below 2^64.
+/// Returns whether a varint below 2^64 cannot have this group at this place. Of the tenth group it
+/// has the lowest bit only.
 fn is_too_large(group: u8, place: usize) -> bool
     ensures { IsTrue result ↔ ((place ≡ 9) × (1 < group)) }
 {
     place == LAST_GROUP && group > 1
 }
 
-/// As many bytes as the number at the front says, and those after them.
+/// Returns the bytes that the number at the front counts, and the bytes after those.
 pub(crate) fn split_counted(bytes: &[u8]) -> Result<(&[u8], &[u8]), Stop>
     ensures { MatchResult result
         (λ p. BeginsWithVarint bytes.now (length p.0.now) (p.0.now ++ p.1.now))

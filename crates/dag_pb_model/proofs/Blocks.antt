@@ -16,7 +16,7 @@ use Rattle.dag_pb_model.specs.Model.{optional_entry, link_model, IsNodeOf}
 use Rattle.dag_pb_model.proofs.Forms.{counted_items}
 use Rattle.dag_pb_model.proofs.Measuring.{data_with, node_data}
 
--- ---- what a node's bytes bound
+-- ---- bounds by the length of a node
 
 inner_short : (t : ℕ) (b p r : List ℕ) → BeginsWithBytes t b p r → length p + length r ≤ length b
 inner_short t b p r h = let k = bytes_parts t b p r h in omega (arith, ap length k.1, length-append k.0 (p ++ r), length-append p r)

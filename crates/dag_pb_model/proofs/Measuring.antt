@@ -42,7 +42,7 @@ measured_form m parts n h e =
 
 -- ---- field by field
 
--- the last data of what was found and the fields after it
+-- the last data among those found and the fields after them
 abbrev pub data_with : Option (List ℕ) → List Field → Option (List ℕ)
 data_with found [] = found
 data_with found (link_field l ∷ more) = data_with found more
@@ -71,7 +71,7 @@ node_data row node (inr e) = ap (data_with None) e ∙ data_first node.«data» 
 abbrev AreTexts : List LinkParts → Type 0
 AreTexts ls = AllByRecursion (λ l. IfSome l.name IsUtf8) ls
 
--- what was found and what is left are the node
+-- the measured fields and those that are left are the node
 pub record MeasuredTo (b rest : List ℕ) (m : Measure) : Type 0 where
   pub node : NodeParts
   pub row : List Field

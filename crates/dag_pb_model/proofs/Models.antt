@@ -1,4 +1,4 @@
--- What holds of all data models.
+-- Laws of all data models.
 use Rattle.std.proofs.Common.{◌≡◌, ℕ, pos, List, [], ◌∷◌, ◌++◌, Option, None, Some, option_map, map, codes, refl, sym, ap, ap₂, ◌∙◌, append-nil}
 use Rattle.ipld_tree.specs.Cid.{cid_bytes}
 use Rattle.ipld_tree.specs.Tree.{Tree, integer, text, bytes, list, items_of, entries_of, links_of, items_links, entries_links}
@@ -11,7 +11,7 @@ model_unique b t u (node, is, names, e) (other, are, texts, f) = e ∙ ap node_m
 
 -- ---- links
 
--- names and sizes hold none
+-- names and sizes have no links
 link_ends : (name : Option (List ℕ)) (tsize : Option ℕ) → entries_links (entries_of (optional_entry (codes "Name") (option_map text name) ++ optional_entry (codes "Tsize") (option_map (λ n. integer (pos n)) tsize))) ≡ []
 link_ends None None = refl
 link_ends None (Some n) = refl

@@ -83,7 +83,7 @@ none_filled b old h = record {
   stands = refl;
 }
 
--- a link stands first where some bytes are left
+-- if bytes are left, they begin with a link
 pub link_there : (b rest old now : List ℕ) (at : ℕ) → rest ≢ [] → Filling b rest old now at → ¬ BeginsNoLinkModel rest
 link_there b rest old now at some f none = by f.more f.left
   where

@@ -162,11 +162,11 @@ one_node_front b i j k l x y h g =
     let same = one_head b 5 h.0 5 g.0 h.1 g.1 h.2 g.2 in
     one_node_ends h.0 h.1 i j k l x y h.3 (subst (λ z. AreNodeEnds h.0 z j l y) (sym same.2) (subst (λ z. AreNodeEnds z g.1 j l y) (sym same.1) g.3))
 
--- no node, where its front is not there
+-- bytes without the front of a node's data model are not a node's data model
 pub no_front_no_node : (b : List ℕ) → ((inner : Option (List ℕ)) (count : ℕ) (rest : List ℕ) → ¬ IsNodeFront b inner count rest) → HasNoNode b
 no_front_no_node b none node f = let p = node_opened b node f in none node.«data» p.0 p.1 p.2
 
--- nor where its links are not
+-- bytes without the links of a node's data model are not a node's data model
 pub no_links_no_node : (b : List ℕ) (inner : Option (List ℕ)) (count : ℕ) (rest : List ℕ) → IsNodeFront b inner count rest → AreNoLinkModels rest count → HasNoNode b
 no_links_no_node b inner count rest h none node f =
     let p = node_opened b node f in

@@ -32,7 +32,7 @@ bytes_judged s rest n b c (Some p) h k = bytes_passed n b c (s p) (rest p) h k
 pub no_number_of : (m n : ℕ) (b c : List ℕ) → SplitsHead b m n c → ¬ (m ≡ 0) → ¬ ((i : ℕ) × (rest : List ℕ) × IsFront b (integer (pos i)) rest)
 no_number_of m n b c h other k = other (sym (head_opened m n b c k.1 (integer (pos k.0)) h k.2).0)
 
--- what follows the tag of links
+-- the bytes after the tag of a link
 pub link_begins : (cid b rest : List ℕ) → IsFront b (link cid) rest → (c : List ℕ) × (b ≡ 0xd8 ∷ 0x2a ∷ c) × IsCid cid × IsFront c (bytes (0x00 ∷ cid)) rest
 link_begins cid b rest f = (_, f.is, f.well_formed, record { well_formed = tt; spellable = omega (arith, f.spellable); is = refl })
 
@@ -72,7 +72,7 @@ behind_key key front b c rest t is e k =
     let same : front ++ c ≡ text_spelling key ++ k.0 = sym e ∙ k.1 in
     subst (λ x. IsFront x t rest) (sym (split_at_length front (text_spelling key) c k.0 (ap length is) same).1) k.2
 
--- no entry stands there where its key does not, or where another value stands after it
+-- bytes that do not begin with the key do not begin with its entry
 pub no_key : {V : Type 0} (tree : V → Tree) (key front b : List ℕ) → front ≡ text_spelling key → ((rest : List ℕ) → b ≢ front ++ rest) → ¬ ((v : V) × (rest : List ℕ) × IsEntry b key (tree v) rest)
 no_key tree key front b is none k = none k.2.0 (k.2.1 ∙ ap (λ x. x ++ k.2.0) (sym is))
 
@@ -85,7 +85,7 @@ pub hash_judged : {P : Type 0} (cid : P → CidParts) (rest : P → List ℕ) (k
 hash_judged cid rest key front b c None is e none = no_value link key front b c is e none
 hash_judged cid rest key front b c (Some p) is e k = (k.0, entry_read key front b c (rest p) (link (cid_bytes (cid p))) is e k.1)
 
--- one entry stands there
+-- bytes begin with one entry of a key only
 pub one_entry : (b key x y : List ℕ) (t u : Tree) → IsEntry b key t x → IsEntry b key u y → (t ≡ u) × (x ≡ y)
 one_entry b key x y t u h k = front_unique h.0 x y t u h.2 (behind_key key (text_spelling key) b h.0 y u refl h.1 k)
 

@@ -79,7 +79,7 @@ sorted_now ls l last sorted r e h named = by sorted (below (sort_name l) last) r
 
 -- ---- the walk
 
--- so much was read of the links that stand there
+-- the first links were read and measured, and `left` are left
 pub record Walked (all : List ℕ) (count left : ℕ) (rest : List ℕ) (size : ℕ) (sorted : Bool) (last : List ℕ) : Type 0 where
   pub done : List LinkParts
   pub counted : length done + left ≡ count
@@ -126,7 +126,7 @@ one_walked all rest behind count left less size more sorted r last name l is h s
   named = last_named w.done l name named;
 }
 
--- no link stands where one is wanted
+-- the bytes do not begin with a link, though links are still to come
 no_first : (rest : List ℕ) (left : ℕ) → 0 < left → BeginsNoLinkModel rest → AreNoLinkModels rest left
 no_first rest left some none [] k = omega (arith, some, k.0)
 no_first rest left some none (m ∷ ms) k = none m (items_spelling (link_models ms) ++ []) (item_opened rest [] (link_model m) (link_models ms) k.1).0

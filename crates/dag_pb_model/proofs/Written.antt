@@ -1,4 +1,4 @@
--- The node of a data model, or why there is none.
+-- The node of a data model, or why it is not written.
 use Rattle.std.proofs.Common.{◌≡◌, ℕ, ◌+◌, ◌^◌, ◌<◌, ◌≤◌, Bool, true, false, MatchBool, List, ◌++◌, length, length-append, drop, codes, flat_map, Option, None, Some, IfSome, sym, ap, ◌∙◌, subst, arith}
 use Rattle.dagcbor_core.specs.Head.{head}
 use Rattle.ipld_tree.specs.Cid.{varint}
@@ -13,7 +13,7 @@ use Rattle.dag_pb_model.specs.Reading.{node_with, IsNodeFront, AreMeasured, IsMe
 use Rattle.dag_pb_model.proofs.Opening.{data_key, node_closed, node_block}
 use Rattle.dag_pb_model.proofs.Sizing.{varint_below}
 
--- ---- what was measured
+-- ---- the measure
 
 -- the data's field is no longer than its entry
 pub node_fits : (b : List ℕ) (inner : Option (List ℕ)) (count : ℕ) (rest : List ℕ) → IsNodeFront b inner count rest → IfSome inner (λ d. length d < 2 ^ 64) → length rest + length (data_field_bytes inner) ≤ length b
@@ -32,7 +32,7 @@ node_measured b inner count rest fields size sorted h m fits sum = record {
   sorted_is = m.sorted_is;
 }
 
--- ---- what is put
+-- ---- writing the node
 
 pub room_for_links : (b old : List ℕ) (inner : Option (List ℕ)) → HasRoomForNode inner b old → HasRoomForLinks b old
 room_for_links b old inner h = (h.0, h.1, h.2, omega (arith, h.3, length-append (flat_map link_spelling h.0) (data_field_bytes inner)))

@@ -8,7 +8,7 @@ use Rattle.dag_pb.specs.Node.{LinkParts, NodeParts, Field, link_field, data_fiel
 use Rattle.dag_pb_model.specs.Model.{optional_entry, link_model}
 use Rattle.dag_pb_model.specs.declared.measure.Measure.{Measure}
 
--- the entry of a part that may be left out
+-- the entry of a part; no bytes if it is left out
 abbrev pub part_form : List ℕ → Option Tree → List ℕ
 part_form key part = entries_spelling (entries_of (optional_entry key part))
 
@@ -22,12 +22,12 @@ size_form tsize = part_form (codes "Tsize") (option_map (λ n. integer (pos n)) 
 abbrev pub data_form : Option (List ℕ) → List ℕ
 data_form inner = part_form (codes "Data") (option_map bytes inner)
 
--- how many entries such a part has
+-- the number of entries of such a part: 0 if it is left out
 abbrev pub part_count : {A : Type 0} → Option A → ℕ
 part_count None = 0
 part_count (Some a) = 1
 
--- a link, and links in a row
+-- a link, and links one after another
 abbrev pub written_link : LinkParts → List ℕ
 written_link l = head 5 (1 + (part_count l.name + part_count l.tsize))
     ++ (text_spelling (codes "Hash") ++ (spelling (link (cid_bytes l.hash))
@@ -42,12 +42,12 @@ written_node node = head 5 (1 + part_count node.«data»)
     ++ (data_form node.«data» ++ (text_spelling (codes "Links")
     ++ (head 4 (length node.links) ++ links_form node.links)))
 
--- what the walk that measures finds of a node
+-- the measure is that of this node
 abbrev pub IsMeasured : Measure → NodeParts → Type 0
 IsMeasured m node = (option_map (λ s. s.now) m.«data» ≡ node.«data»)
     × (m.links ≡ length node.links) × (m.length ≡ length (links_form node.links))
 
--- a field was added to what was found
+-- the field was added to the measure; `None` if it is a link whose name is not UTF-8
 abbrev pub Adds : Measure → Field → Option Measure → Type 0
 Adds m (link_field l) result = MatchOption result (¬ IfSome l.name IsUtf8)
     (λ n. IfSome l.name IsUtf8 × (n.«data» ≡ m.«data») × (n.links ≡ m.links + 1)

@@ -1,4 +1,5 @@
--- What stands at the front of a block of a data model, part by part. No public contract names it.
+-- Reading the front of a data model's block, part by part. No public contract names these
+-- definitions.
 use Rattle.std.specs.Prelude.{◌≡◌, ℕ, pos, ◌≤◌, Bool, List, [], ◌++◌, length, Option, None, Some, codes, map, flat_map, MatchBool}
 use Rattle.std.specs.List.{AllByRecursion}
 use Rattle.dagcbor_core.specs.Splits.{SplitsHead}
@@ -10,11 +11,11 @@ use Rattle.dag_pb.specs.Spelling.{link_spelling, node_spelling, AreSorted, IsSpe
 use Rattle.lent_memory.specs.Puts.{with_front, PutsAt}
 use Rattle.dag_pb_model.specs.Model.{link_model, node_model}
 
--- the bytes begin with this entry of a map, and the rest follows
+-- the bytes are this entry of a map, and then the rest
 abbrev pub IsEntry : List ℕ → List ℕ → Tree → List ℕ → Type 0
 IsEntry b key t rest = (behind : List ℕ) × (b ≡ text_spelling key ++ behind) × IsFront behind t rest
 
--- the bytes begin with the name and the size of a link of so many entries, its CID's among them
+-- the bytes begin with the name and size of a link of `count` entries, that of its CID included
 abbrev pub AreEnds : ℕ → List ℕ → Option (List ℕ) → Option ℕ → List ℕ → Type 0
 AreEnds count b None None rest = (count ≡ 1) × (b ≡ rest)
 AreEnds count b (Some name) None rest = (count ≡ 2) × IsEntry b (codes "Name") (text name) rest
@@ -23,22 +24,22 @@ AreEnds count b (Some name) (Some n) rest = (count ≡ 3)
     × ((behind : List ℕ) × IsEntry b (codes "Name") (text name) behind
     × IsEntry behind (codes "Tsize") (integer (pos n)) rest)
 
--- they begin with none such
+-- the bytes do not begin with the name and size of such a link
 abbrev pub HasNoEnds : ℕ → List ℕ → Type 0
 HasNoEnds count b = (name : Option (List ℕ)) (tsize : Option ℕ) (rest : List ℕ)
     → ¬ AreEnds count b name tsize rest
 
--- the bytes begin with a link's data model, and the rest follows
+-- the bytes are the data model of this link, and then the rest
 abbrev pub IsLinkModel : List ℕ → LinkParts → List ℕ → Type 0
 IsLinkModel b l rest = AreCidParts l.hash × IsFront b (link_model l) rest
 
--- they begin with none
+-- the bytes do not begin with a link's data model
 abbrev pub BeginsNoLinkModel : List ℕ → Type 0
 BeginsNoLinkModel b = (l : LinkParts) (rest : List ℕ) → ¬ IsFront b (link_model l) rest
 
 -- ---- nodes
 
--- the items of the list of these links
+-- the list items of these links
 abbrev pub link_models : List LinkParts → Items
 link_models ls = items_of (map link_model ls)
 
@@ -47,7 +48,7 @@ abbrev pub IsLinksFront : List ℕ → ℕ → List ℕ → Type 0
 IsLinksFront b count rest = (behind : List ℕ) × (b ≡ text_spelling (codes "Links") ++ behind)
     × SplitsHead behind 4 count rest
 
--- the bytes begin with the data of a node of so many entries, and with that entry
+-- the bytes begin with the data of a node of this many entries, and the front of its links
 abbrev pub AreNodeEnds : ℕ → List ℕ → Option (List ℕ) → ℕ → List ℕ → Type 0
 AreNodeEnds entries b None count rest = (entries ≡ 1) × IsLinksFront b count rest
 AreNodeEnds entries b (Some inner) count rest = (entries ≡ 2)
@@ -59,19 +60,19 @@ abbrev pub IsNodeFront : List ℕ → Option (List ℕ) → ℕ → List ℕ →
 IsNodeFront b inner count rest = (entries : ℕ) × (behind : List ℕ) × SplitsHead b 5 entries behind
     × AreNodeEnds entries behind inner count rest
 
--- the bytes are no node's data model
+-- the bytes are not a node's data model
 abbrev pub HasNoNode : List ℕ → Type 0
 HasNoNode b = (node : NodeParts) → ¬ IsFront b (node_model node) []
 
--- they are so many links' data models
+-- the bytes are the data models of these links, `count` in number
 abbrev pub AreLinkModels : List ℕ → ℕ → List LinkParts → Type 0
 AreLinkModels b count ls = (length ls ≡ count) × AreFronts b (link_models ls) []
 
--- they are not so many links' data models
+-- the bytes are not the data models of `count` links
 abbrev pub AreNoLinkModels : List ℕ → ℕ → Type 0
 AreNoLinkModels b count = (ls : List LinkParts) → ¬ AreLinkModels b count ls
 
--- links that were read and measured, and whether they are sorted
+-- the bytes are the data models of `count` links; their fields take `size` bytes, sorted or not
 pub record AreMeasured (b : List ℕ) (count size : ℕ) (sorted : Bool) : Type 0 where
   pub links : List LinkParts
   pub there : AreLinkModels b count links
@@ -80,14 +81,14 @@ pub record AreMeasured (b : List ℕ) (count size : ℕ) (sorted : Bool) : Type 
   pub few : size ≤ length b
   pub sorted_is : MatchBool sorted (AreSorted links) (¬ AreSorted links)
 
--- ---- what is put
+-- ---- writing nodes
 
--- the memory has room for the links of these data models
+-- the memory has room for the links with these data models
 abbrev pub HasRoomForLinks : List ℕ → List ℕ → Type 0
 HasRoomForLinks b old = (ls : List LinkParts) × AreFronts b (link_models ls) []
     × AllByRecursion IsSpellableLink ls × (length (flat_map link_spelling ls) ≤ length old)
 
--- they were put at its front, up to this place
+-- the links were written at the front of the memory, up to this place
 abbrev pub FillsLinks : List ℕ → List ℕ → List ℕ → ℕ → Type 0
 FillsLinks b old new end = (ls : List LinkParts) → AreFronts b (link_models ls) []
     → AllByRecursion IsSpellableLink ls → PutsAt (flat_map link_spelling ls) 0 old new end
@@ -96,18 +97,18 @@ FillsLinks b old new end = (ls : List LinkParts) → AreFronts b (link_models ls
 abbrev pub node_with : List LinkParts → Option (List ℕ) → NodeParts
 node_with ls inner = record { links = ls; «data» = inner }
 
--- the memory has room for the node of this data and the links of these data models
+-- the memory has room for the node with this data and the links with these data models
 abbrev pub HasRoomForNode : Option (List ℕ) → List ℕ → List ℕ → Type 0
 HasRoomForNode inner b old = (ls : List LinkParts) × AreFronts b (link_models ls) []
     × AllByRecursion IsSpellableLink ls × (length (node_spelling (node_with ls inner)) ≤ length old)
 
--- it was put at its front
+-- the node was written at the front of the memory
 abbrev pub FillsNode : Option (List ℕ) → List ℕ → List ℕ → List ℕ → Type 0
 FillsNode inner b old new = (ls : List LinkParts) → AreFronts b (link_models ls) []
     → AllByRecursion IsSpellableLink ls → new ≡ with_front (node_spelling (node_with ls inner)) old
 
--- the bytes are the data model of a node of this data, and of the links whose data models are there; its
--- block has so many bytes
+-- the bytes are the data model of a node with this data; its links' data
+-- models are the rest; its block takes `size` bytes
 pub record IsMeasuredModel (b : List ℕ) (inner : Option (List ℕ)) (rest : List ℕ) (size : ℕ) (sorted : Bool) : Type 0 where
   pub links : List LinkParts
   pub whole : IsFront b (node_model (node_with links inner)) []

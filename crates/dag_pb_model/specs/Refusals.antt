@@ -6,7 +6,7 @@ use Rattle.dag_pb_model.specs.Model.{HasTextNames}
 use Rattle.dag_pb_model.specs.declared.error.ModelError.{ModelError}
 use Rattle.dag_pb_model.specs.declared.error.ModelError.TheVariants.{NoNode, NameNotText}
 
--- they are no block of DAG-PB; or a link's name is not UTF-8
+-- the bytes are not a block of DAG-PB; or the name of a link is not UTF-8
 abbrev pub HasNoModel : List ℕ → ModelError → Type 0
 HasNoModel b (NoNode e) = IsNoNode b e
 HasNoModel b NameNotText = (node : NodeParts) × IsNode b node × ¬ HasTextNames node

@@ -6,7 +6,7 @@ use thiserror::Error;
 /// Why bytes have no data model.
 #[derive(Copy, Clone, Debug, PartialEq, Eq, Error)]
 pub enum ModelError {
-    /// They are no block of DAG-PB.
+    /// The bytes are not a block of DAG-PB.
     #[error("no DAG-PB: {0}")]
     NoNode(PbError),
     /// The name of a link is not UTF-8, so the data model has no text for it.

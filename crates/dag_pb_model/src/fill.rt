@@ -1,4 +1,4 @@
-//! The data model of a node, put at the front of memory that has room for it.
+//! Writes the data model of a node into memory that has room for it.
 
 ghost use Rattle.std.specs.Prelude.{◌≡◌, ◌+◌, ◌≤◌, List, [], length, option_map};
 ghost use Rattle.ipld_tree.specs.Spelling.{spelling};
@@ -14,7 +14,7 @@ use arrayvec::ArrayVec;
 use dag_pb::{PbLink, next_link};
 use lent_memory::{put_head, put_link, put_string};
 
-/// Puts the data model of the node, whose measure this is, at the front of `out`.
+/// Writes the data model of the node, whose measure this is, at the front of `out`.
 pub(crate) fn fill(node: &[u8], measure: &Measure<'_>, out: &mut [u8])
     requires { (parts : NodeParts) × IsNode node.now parts × IsMeasured measure.now parts
         × (length (spelling (node_model parts)) ≤ length out.old) }
@@ -28,7 +28,7 @@ pub(crate) fn fill(node: &[u8], measure: &Measure<'_>, out: &mut [u8])
     put_links(out, links, node);
 }
 
-/// Puts the entry of the data at the place: the place after it.
+/// Writes the entry of the data at `at`, if there are data. Returns the place after it.
 fn put_data(out: &mut [u8], at: usize, inner: Option<&[u8]>) -> usize
     requires { at + length (data_form (option_map (λ s. s.now) inner)) ≤ length out.old }
     ensures { PutsAt (data_form (option_map (λ s. s.now) inner.entry)) at out.old out.new result }
@@ -42,7 +42,7 @@ fn put_data(out: &mut [u8], at: usize, inner: Option<&[u8]>) -> usize
     }
 }
 
-/// Puts the data models of the links of fields in a row at the place: the place after them.
+/// Writes the data models of the links among these fields. Returns the place after them.
 fn put_links(out: &mut [u8], at: usize, fields: &[u8]) -> usize
     requires { (row : List Field) × BeginsWithFields fields.now row []
         × (at + length (links_form (links_in row)) ≤ length out.old) }
@@ -58,7 +58,7 @@ fn put_links(out: &mut [u8], at: usize, fields: &[u8]) -> usize
     place
 }
 
-/// Puts the data model of the link at the place: the place after it.
+/// Writes the data model of the link. Returns the place after it.
 fn put_model_of(out: &mut [u8], at: usize, link: &PbLink<'_>) -> usize
     requires { at + length (written_link (link_of link.now)) ≤ length out.old }
     ensures { PutsAt (written_link (link_of link.now)) at out.old out.new result }
@@ -72,7 +72,7 @@ fn put_model_of(out: &mut [u8], at: usize, link: &PbLink<'_>) -> usize
     put_size(out, size, link.tsize)
 }
 
-/// Puts the entry of the name at the place: the place after it.
+/// Writes the entry of the name, if there is one. Returns the place after it.
 fn put_name(out: &mut [u8], at: usize, name: Option<&[u8]>) -> usize
     requires { at + length (name_form (option_map (λ s. s.now) name)) ≤ length out.old }
     ensures { PutsAt (name_form (option_map (λ s. s.now) name.entry)) at out.old out.new result }
@@ -86,7 +86,7 @@ fn put_name(out: &mut [u8], at: usize, name: Option<&[u8]>) -> usize
     }
 }
 
-/// Puts the entry of the size at the place: the place after it.
+/// Writes the entry of the size, if there is one. Returns the place after it.
 fn put_size(out: &mut [u8], at: usize, tsize: Option<u64>) -> usize
     requires { at + length (size_form tsize) ≤ length out.old }
     ensures { PutsAt (size_form tsize) at out.old out.new result }

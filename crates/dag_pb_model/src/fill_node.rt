@@ -1,4 +1,4 @@
-//! A node, put at the front of memory that has room for it.
+//! Writes a node into memory that has room for it.
 
 ghost use Rattle.std.specs.Prelude.{option_map};
 ghost use Rattle.dag_pb_model.specs.Reading.{HasRoomForLinks, FillsLinks, HasRoomForNode, FillsNode};
@@ -6,7 +6,7 @@ ghost use Rattle.dag_pb_model.specs.Reading.{HasRoomForLinks, FillsLinks, HasRoo
 use crate::read::next_model_link;
 use dag_pb::{put_data, put_link};
 
-/// Puts the links of these data models: the place after them.
+/// Writes the links with these data models at the front of `out`. Returns the place after them.
 fn fill_links(links: &[u8], out: &mut [u8]) -> usize
     requires { HasRoomForLinks links.now out.old }
     ensures { FillsLinks links.now out.old out.new result }
@@ -22,7 +22,7 @@ fn fill_links(links: &[u8], out: &mut [u8]) -> usize
     at
 }
 
-/// Puts the node of this data and the links of these data models.
+/// Writes the node with this data, and the links with these data models, at the front of `out`.
 pub(crate) fn fill_node(data: Option<&[u8]>, links: &[u8], out: &mut [u8])
     requires { HasRoomForNode (option_map (λ b. b.now) «data») links.now out.old }
     ensures { FillsNode (option_map (λ b. b.now) «data».entry) links.now out.old out.new }

@@ -1,10 +1,10 @@
-//! Laws, each the contract of a function that does nothing.
+//! Laws. Each is the contract of a function that does nothing.
 
 ghost use Rattle.dag_pb_model.specs.Laws.{ModelsAreUnique, ModelsKeepLinks, ModelsAreBlocks};
 ghost use Rattle.dag_pb_model.specs.Laws.{PutNodesHaveTheirModels, BlocksHaveTextNames};
 ghost use Rattle.dag_pb_model.specs.Laws.{ModelsAreOfOneNode};
 
-/// Bytes have one data model at most.
+/// The same bytes never have two different data models.
 pub fn models_are_unique()
     ensures { ModelsAreUnique }
 {}
@@ -20,17 +20,17 @@ pub fn models_are_blocks()
     ensures { ModelsAreBlocks }
 {}
 
-/// What `put_node` puts is read with the data model that it was put for.
+/// The block that `put_node` writes for a data model has that data model.
 pub fn put_nodes_have_their_models()
     ensures { PutNodesHaveTheirModels }
 {}
 
-/// The names of a node whose data model is a block are UTF-8.
+/// If the data model of a node is a block, the names of the node's links are UTF-8.
 pub fn blocks_have_text_names()
     ensures { BlocksHaveTextNames }
 {}
 
-/// A data model is of one node at most.
+/// No two nodes that can be encoded have the same data model.
 pub fn models_are_of_one_node()
     ensures { ModelsAreOfOneNode }
 {}

@@ -1,4 +1,4 @@
-//! The data model of blocks of DAG-PB, as DAG-CBOR, both ways. Only `model_of` takes memory.
+//! Converts blocks of DAG-PB to their data model, as DAG-CBOR, and back. Only `model_of` allocates.
 #![tactic(auto)]
 
 mod error;

@@ -1,4 +1,4 @@
-//! How many bytes the data model of a node has.
+//! Measures the data model of a node.
 
 ghost use Rattle.std.specs.Prelude.{◌≡◌, ◌↔◌, ◌+◌, ◌-◌, ◌^◌, ◌<◌, ◌≤◌, min, length, option_map};
 ghost use Rattle.std.specs.Prelude.{MatchOption, MatchResult, IfSome, IsUtf8, IsTrue};
@@ -16,18 +16,18 @@ use dag_pb::{PbField, PbLink, check_node, next_field};
 use dagcbor_decode::is_text;
 use lent_memory::{head_length, link_length, string_length};
 
-/// What a walk finds of a node.
+/// The measure of a node, from a walk over its fields.
 #[derive(Clone, Copy)]
 pub(crate) struct Measure<'a> {
-    /// The data, where there is some.
+    /// The data, if the node has some.
     pub(crate) data: Option<&'a [u8]>,
-    /// How many links there are.
+    /// The number of links.
     pub(crate) links: usize,
-    /// How many bytes their models have together.
+    /// The length of all links' data models together, in bytes.
     pub(crate) length: u128,
 }
 
-/// The measure of a node that has a data model.
+/// Returns the measure of a node that has a data model.
 pub(crate) fn measured(node: &[u8]) -> Result<Measure<'_>, ModelError>
     ensures { MatchResult result
         (λ m. (parts : NodeParts) × IsNode node.now parts × HasTextNames parts
@@ -43,7 +43,7 @@ pub(crate) fn measured(node: &[u8]) -> Result<Measure<'_>, ModelError>
     }
 }
 
-/// What is found of a node. None where the name of a link is no text.
+/// Returns the measure of a node. `None` if the name of a link is not UTF-8.
 fn measure_fields(node: &[u8]) -> Option<Measure<'_>>
     requires { HasNode node.now }
     ensures { MatchOption result
@@ -65,7 +65,7 @@ fn measure_fields(node: &[u8]) -> Option<Measure<'_>>
 }
 
 impl<'a> Measure<'a> {
-    /// With this field after the others. None where it is a link whose name is no text.
+    /// Adds this field to the measure. `None` if it is a link whose name is not UTF-8.
     fn with(self, field: &PbField<'a>) -> Option<Measure<'a>>
         requires links { self.links < 2 ^ 63 }
         requires length { self.length < 2 ^ 127 }
@@ -85,7 +85,7 @@ impl<'a> Measure<'a> {
         }
     }
 
-    /// How many bytes the data model has, as far as that is counted.
+    /// Returns the length of the data model in bytes, at most 2^64 - 1.
     pub(crate) fn total(&self) -> usize
         requires { self.now.length ≤ 2 ^ 127 }
         ensures { (parts : NodeParts) → IsMeasured self.now parts
@@ -98,7 +98,7 @@ impl<'a> Measure<'a> {
         whole.min(usize::MAX as u128) as usize
     }
 
-    /// How many entries the data model has.
+    /// Returns the number of entries in the data model: 1 or 2.
     pub(crate) fn entries(&self) -> u64
         ensures { result ≡ 1 + part_count self.now.«data» }
     {
@@ -106,7 +106,7 @@ impl<'a> Measure<'a> {
     }
 }
 
-/// How many bytes the data model of a link has. None where its name is no text.
+/// Returns the length of a link's data model in bytes. `None` if its name is not UTF-8.
 fn model_length(link: &PbLink<'_>) -> Option<usize>
     ensures { MatchOption result (¬ IfSome (link_of link.now).name IsUtf8)
         (λ n. IfSome (link_of link.now).name IsUtf8
@@ -121,7 +121,7 @@ fn model_length(link: &PbLink<'_>) -> Option<usize>
     Some(hash + name_length(link.name) + size_length(link.tsize))
 }
 
-/// Whether the name, where there is one, is a text.
+/// Returns whether the name is UTF-8, or left out.
 fn is_text_name(name: Option<&[u8]>) -> bool
     ensures { IsTrue result ↔ IfSome (option_map (λ s. s.now) name.entry) IsUtf8 }
 {
@@ -131,7 +131,7 @@ fn is_text_name(name: Option<&[u8]>) -> bool
     }
 }
 
-/// How many entries the data model of a link has.
+/// Returns the number of entries in a link's data model: 1 to 3.
 pub(crate) fn link_entries(link: &PbLink<'_>) -> u64
     ensures few { result ≤ 3 }
     ensures count { result ≡ 1 + (part_count (link_of link.now).name
@@ -142,7 +142,7 @@ pub(crate) fn link_entries(link: &PbLink<'_>) -> u64
     1 + name + size
 }
 
-/// How many bytes the entry of the name has.
+/// Returns the length of the name's entry in bytes: 0 without a name.
 fn name_length(name: Option<&[u8]>) -> usize
     ensures length { result ≡ length (name_form (option_map (λ s. s.now) name.entry)) }
     ensures fits { result < 2 ^ 63 + 30 }
@@ -153,7 +153,7 @@ fn name_length(name: Option<&[u8]>) -> usize
     }
 }
 
-/// How many bytes the entry of the size has.
+/// Returns the length of the size's entry in bytes: 0 without a size.
 fn size_length(tsize: Option<u64>) -> usize
     ensures length { result ≡ length (size_form tsize) }
     ensures few { result ≤ 30 }
@@ -164,7 +164,7 @@ fn size_length(tsize: Option<u64>) -> usize
     }
 }
 
-/// How many bytes the entry of the data has.
+/// Returns the length of the data's entry in bytes: 0 without data.
 fn data_length(inner: Option<&[u8]>) -> usize
     ensures length { result ≡ length (data_form (option_map (λ s. s.now) inner.entry)) }
     ensures fits { result < 2 ^ 63 + 30 }

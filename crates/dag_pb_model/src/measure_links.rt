@@ -1,4 +1,4 @@
-//! The links of a data model, read, measured, and looked at for their order.
+//! Reads and measures the links of a data model, and tests their order.
 
 ghost use Rattle.std.specs.Prelude.{◌≡◌, ◌&&◌, not, MatchOption};
 ghost use Rattle.std.specs.Ordering.{nat_cmp, is_lt};
@@ -10,21 +10,23 @@ ghost use Rattle.dag_pb_model.specs.Reading.{AreMeasured, AreNoLinkModels};
 use crate::read::next_model_link;
 use dag_pb::{PbLink, link_length};
 
-/// The name by which links are sorted.
+/// Returns the name by which the link is sorted.
 fn sort_name<'a>(link: &PbLink<'a>) -> &'a [u8]
     ensures { result.now ≡ sort_name (link_of link.now) }
 {
     link.name.unwrap_or(&[])
 }
 
-/// Whether links that were sorted still are, with one of this name after one of the last name.
+/// Returns whether links that were sorted stay so, if a link with this name comes after one with
+/// the last name.
 fn are_still_sorted(sorted: bool, name: &[u8], last: &[u8]) -> bool
     ensures { result ≡ (sorted && not (is_lt (slice_cmp nat_cmp name.now last.now))) }
 {
     sorted && !name.cmp(last).is_lt()
 }
 
-/// How many bytes the fields of so many links have, and whether these are sorted.
+/// Returns the length of the fields of `count` links in bytes, and whether the links are sorted.
+/// `None` if the bytes are not this many links' data models.
 pub(crate) fn measure_links(count: u64, links: &[u8]) -> Option<(usize, bool)>
     ensures { MatchOption result (AreNoLinkModels links.now count)
         (λ m. AreMeasured links.now count m.0 m.1) }

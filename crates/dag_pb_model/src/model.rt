@@ -1,4 +1,4 @@
-//! The data model of a node.
+//! Writes the data model of a node.
 
 ghost use Rattle.std.specs.Prelude.{◌≡◌, ◌^◌, ◌-◌, min, length, MatchResult};
 ghost use Rattle.ipld_tree.specs.Tree.{Tree};
@@ -13,8 +13,8 @@ use crate::fill::fill;
 use crate::measure::measured;
 use std::alloc::{AllocError, Global};
 
-/// Puts the data model of a block of DAG-PB, as a block of DAG-CBOR, at the front of `out`, where
-/// there is room for it; and how many bytes it has, as far as that is counted. Takes no memory.
+/// Writes the data model of a block of DAG-PB, as a block of DAG-CBOR, at the front of `out`, if it
+/// has room. Returns the length of the data model in bytes, at most 2^64 - 1. It allocates nothing.
 pub fn put_model(node: &[u8], out: &mut [u8]) -> Result<usize, ModelError>
     ensures { MatchResult result
         (λ n. (t : Tree) × IsNodeOf node.now t × (n ≡ min (length (spelling t)) (2 ^ 64 - 1))
@@ -29,8 +29,8 @@ pub fn put_model(node: &[u8], out: &mut [u8]) -> Result<usize, ModelError>
     Ok(count)
 }
 
-/// The data model of a block of DAG-PB, as a block of DAG-CBOR. Memory is wanted only where there is
-/// one.
+/// Returns the data model of a block of DAG-PB, as a block of DAG-CBOR. Memory is needed only if
+/// there is one.
 pub fn model_of(alloc: Global, node: &[u8]) -> Result<Result<Vec<u8>, ModelError>, AllocError>
     ensures { MatchResult result
         (λ r. MatchResult r

@@ -1,4 +1,4 @@
-//! The node of a data model.
+//! Writes the node of a data model.
 
 ghost use Rattle.std.specs.Prelude.{◌≡◌, length, option_map, MatchOption, MatchResult};
 ghost use Rattle.dagcbor_decode.specs.Blocks.{IsBlock};
@@ -16,8 +16,8 @@ use crate::open::open_node;
 use dag_pb::data_length;
 use dagcbor_decode::check_slice;
 
-/// The data of a node, the data models of its links, how many bytes its block has, and whether its links
-/// are sorted.
+/// The data of a node, the data models of its links, the length of its block in bytes, and whether
+/// its links are sorted.
 #[derive(Clone, Copy, Debug)]
 struct Measured<'a> {
     data: Option<&'a [u8]>,
@@ -26,7 +26,8 @@ struct Measured<'a> {
     sorted: bool,
 }
 
-/// The node of a data model, measured.
+/// Returns the measure of the node with this data model. `None` if the bytes are not a node's data
+/// model.
 fn measure_node(model: &[u8]) -> Option<Measured<'_>>
     ensures { MatchOption result (HasNoNode model.now)
         (λ m. IsMeasuredModel model.now (option_map (λ b. b.now) m.«data») m.links.now m.size m.sorted) }
@@ -42,7 +43,7 @@ fn measure_node(model: &[u8]) -> Option<Measured<'_>>
     })
 }
 
-/// Why the bytes are no node's data model.
+/// Returns why the bytes are not a node's data model.
 fn refusal(model: &[u8]) -> NodeError
     requires { HasNoNode model.now }
     ensures { IsNotPut model.now result }
@@ -53,9 +54,9 @@ fn refusal(model: &[u8]) -> NodeError
     }
 }
 
-/// How many bytes the block of DAG-PB has whose data model is this block of DAG-CBOR. The block is put at
-/// the front of `out`, where there is room for it; else `out` stays as it is. Refuses links that are not
-/// sorted by the bytes of their names, as encoders of DAG-PB write them.
+/// Writes the block of DAG-PB whose data model is this block of DAG-CBOR at the front of `out`, if
+/// it has room; else `out` stays as it is. Returns the length of the block in bytes. Refuses links
+/// that are not sorted by the bytes of their names, as encoders of DAG-PB write them.
 pub fn put_node(model: &[u8], out: &mut [u8]) -> Result<usize, NodeError>
     ensures { MatchResult result
         (λ n. (node : NodeParts) × IsBlock model.now (node_model node) × IsSpellable node

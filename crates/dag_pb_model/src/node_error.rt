@@ -1,4 +1,4 @@
-//! Why no node is written.
+//! Why a node is not written.
 
 use dagcbor_core::DecodeError;
 use std::convert::Infallible;
@@ -7,13 +7,13 @@ use thiserror::Error;
 /// Why a data model is not written as a node.
 #[derive(Debug, Drop, Error)]
 pub enum NodeError {
-    /// The bytes are no block of DAG-CBOR.
+    /// The bytes are not a block of DAG-CBOR.
     #[error("no DAG-CBOR: {0}")]
     NoBlock(DecodeError<Infallible>),
-    /// They are a block of other data.
+    /// The bytes are a block, but not the data model of a node.
     #[error("the data is not that of a DAG-PB node")]
     NotANode,
-    /// A link comes before one whose name is less, by its bytes.
+    /// A link comes before one with a lesser name, by its bytes.
     #[error("the links are not sorted by their names")]
     UnsortedLinks,
 }

@@ -1,4 +1,4 @@
-//! The front of a node's data model, up to its links.
+//! Reads the front of a node's data model, up to its links.
 
 ghost use Rattle.std.specs.Prelude.{ℕ, List, [], Option, codes, option_map, MatchOption};
 ghost use Rattle.ipld_tree.specs.Tree.{bytes};
@@ -7,7 +7,7 @@ ghost use Rattle.dag_pb_model.specs.Reading.{IsEntry, IsLinksFront, AreNodeEnds,
 use crate::read::{behind_front, split_bytes};
 use dagcbor_core::split_head;
 
-/// The data of a node, and the bytes after it.
+/// Returns the data of a node, and the bytes after its entry.
 fn split_data(block: &[u8]) -> Option<(&[u8], &[u8])>
     ensures { MatchOption result
         (¬ ((s : List ℕ) × (rest : List ℕ) × IsEntry block.now (codes "Data") (bytes s) rest))
@@ -18,7 +18,7 @@ fn split_data(block: &[u8]) -> Option<(&[u8], &[u8])>
     Some((inner, rest))
 }
 
-/// How many links a node has, and the bytes of these.
+/// Returns the number of links of a node, and their bytes.
 fn split_links(block: &[u8]) -> Option<(u64, &[u8])>
     ensures { MatchOption result ((count : ℕ) (rest : List ℕ) → ¬ IsLinksFront block.now count rest)
         (λ p. IsLinksFront block.now p.0 p.1.now) }
@@ -31,7 +31,7 @@ fn split_links(block: &[u8]) -> Option<(u64, &[u8])>
     Some((count, rest))
 }
 
-/// The data of a node of two entries, how many links it has, and the bytes of these.
+/// Returns the data of a node of two entries, the number of its links, and their bytes.
 fn open_both(block: &[u8]) -> Option<(Option<&[u8]>, u64, &[u8])>
     ensures { MatchOption result
         ((inner : Option (List ℕ)) (count : ℕ) (rest : List ℕ)
@@ -43,7 +43,7 @@ fn open_both(block: &[u8]) -> Option<(Option<&[u8]>, u64, &[u8])>
     Some((Some(inner), count, links))
 }
 
-/// How many links a node of one entry has, and the bytes of these.
+/// Returns no data, the number of links of a node of one entry, and their bytes.
 fn open_one(block: &[u8]) -> Option<(Option<&[u8]>, u64, &[u8])>
     ensures { MatchOption result
         ((inner : Option (List ℕ)) (count : ℕ) (rest : List ℕ)
@@ -54,7 +54,7 @@ fn open_one(block: &[u8]) -> Option<(Option<&[u8]>, u64, &[u8])>
     Some((None, count, links))
 }
 
-/// The same for a node of so many entries.
+/// Returns the data of a node of this many entries, the number of its links, and their bytes.
 fn open_entries(entries: u64, block: &[u8]) -> Option<(Option<&[u8]>, u64, &[u8])>
     ensures { MatchOption result
         ((inner : Option (List ℕ)) (count : ℕ) (rest : List ℕ)
@@ -68,7 +68,7 @@ fn open_entries(entries: u64, block: &[u8]) -> Option<(Option<&[u8]>, u64, &[u8]
     }
 }
 
-/// The data of a node, how many links it has, and the bytes of these.
+/// Returns the data of a node, the number of its links, and their bytes.
 pub(crate) fn open_node(block: &[u8]) -> Option<(Option<&[u8]>, u64, &[u8])>
     ensures { MatchOption result
         ((inner : Option (List ℕ)) (count : ℕ) (rest : List ℕ)

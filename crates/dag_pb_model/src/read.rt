@@ -1,5 +1,4 @@
-//! What stands at the front of a block of a data model, part by part. `None` says that nothing of the
-//! kind stands there.
+//! Reads the front of a data model's block, part by part. `None` says that the part is not there.
 
 ghost use Rattle.std.specs.Prelude.{◌≡◌, ◌≢◌, ◌++◌, ◌∷◌, [], ℕ, List, Option, pos, codes, option_map, MatchOption};
 ghost use Rattle.ipld_tree.specs.Cid.{AreCidParts, IsCid, cid_bytes};
@@ -14,7 +13,7 @@ use dagcbor_core::split_head;
 use dagcbor_decode::{is_text, split_payload};
 use ipld_tree::Cid;
 
-/// The bytes after these, where they stand first.
+/// Returns the bytes after `front`, if they begin with it.
 pub(crate) fn behind_front<'a>(bytes: &'a [u8], front: &[u8]) -> Option<&'a [u8]>
     ensures { MatchOption result ((rest : List ℕ) → bytes.now ≢ front.now ++ rest)
         (λ rest. bytes.now ≡ front.now ++ rest.now) }
@@ -22,7 +21,7 @@ pub(crate) fn behind_front<'a>(bytes: &'a [u8], front: &[u8]) -> Option<&'a [u8]
     bytes.strip_prefix(front)
 }
 
-/// The bytes of a byte string, and the bytes after it.
+/// Returns the bytes of the byte string at the front, and the bytes after it.
 pub(crate) fn split_bytes(block: &[u8]) -> Option<(&[u8], &[u8])>
     ensures { MatchOption result
         (¬ ((s : List ℕ) × (rest : List ℕ) × IsFront block.now (bytes s) rest))
@@ -35,7 +34,7 @@ pub(crate) fn split_bytes(block: &[u8]) -> Option<(&[u8], &[u8])>
     split_payload(more, count)
 }
 
-/// The bytes of a text of n bytes, and the bytes after it.
+/// Returns the first n bytes, if they are UTF-8, and the bytes after them.
 fn split_payload_text(bytes: &[u8], n: u64) -> Option<(&[u8], &[u8])>
     ensures { MatchOption result
         (¬ ((s : List ℕ) × (rest : List ℕ) × SplitsText bytes.now n s rest))
@@ -48,7 +47,7 @@ fn split_payload_text(bytes: &[u8], n: u64) -> Option<(&[u8], &[u8])>
     Some((payload, rest))
 }
 
-/// The bytes of a text, and the bytes after it.
+/// Returns the bytes of the text at the front, and the bytes after it.
 fn split_text(bytes: &[u8]) -> Option<(&[u8], &[u8])>
     ensures { MatchOption result
         (¬ ((s : List ℕ) × (rest : List ℕ) × IsFront bytes.now (text s) rest))
@@ -61,7 +60,7 @@ fn split_text(bytes: &[u8]) -> Option<(&[u8], &[u8])>
     split_payload_text(more, count)
 }
 
-/// A number that is not below zero, and the bytes after it.
+/// Returns the number at the front, which is not below zero, and the bytes after it.
 fn split_number(bytes: &[u8]) -> Option<(u64, &[u8])>
     ensures { MatchOption result
         (¬ ((n : ℕ) × (rest : List ℕ) × IsFront bytes.now (integer (pos n)) rest))
@@ -74,7 +73,7 @@ fn split_number(bytes: &[u8]) -> Option<(u64, &[u8])>
     Some((number, more))
 }
 
-/// The CID of the payload of a link.
+/// Returns the CID in the payload of a link, after its zero byte.
 fn cid_behind_zero(payload: &[u8]) -> Option<Cid>
     ensures { MatchOption result
         (¬ ((cid : List ℕ) × IsCid cid × (payload.now ≡ 0x00 ∷ cid)))
@@ -90,14 +89,14 @@ fn cid_behind_zero(payload: &[u8]) -> Option<Cid>
     }
 }
 
-/// A CID, and the bytes after its link.
+/// The CID of a link, and the bytes after that link.
 #[derive(Clone, Copy, Debug)]
 struct Linked<'a> {
     cid: Cid,
     rest: &'a [u8],
 }
 
-/// The CID of a link, and the bytes after it.
+/// Returns the CID of the link at the front, and the bytes after it.
 fn split_link(bytes: &[u8]) -> Option<Linked<'_>>
     ensures { MatchOption result
         (¬ ((cid : List ℕ) × (rest : List ℕ) × IsFront bytes.now (link cid) rest))
@@ -109,7 +108,7 @@ fn split_link(bytes: &[u8]) -> Option<Linked<'_>>
     Some(Linked { cid, rest })
 }
 
-/// The CID of the first entry of a link, and the bytes after it.
+/// Returns the CID in the entry `Hash` at the front, and the bytes after it.
 fn split_hash(bytes: &[u8]) -> Option<Linked<'_>>
     ensures { MatchOption result
         (¬ ((cid : List ℕ) × (rest : List ℕ) × IsEntry bytes.now (codes "Hash") (link cid) rest))
@@ -120,7 +119,7 @@ fn split_hash(bytes: &[u8]) -> Option<Linked<'_>>
     split_link(behind)
 }
 
-/// The name of a link, and the bytes after it.
+/// Returns the name in the entry `Name` at the front, and the bytes after it.
 fn split_name(bytes: &[u8]) -> Option<(&[u8], &[u8])>
     ensures { MatchOption result
         (¬ ((name : List ℕ) × (rest : List ℕ) × IsEntry bytes.now (codes "Name") (text name) rest))
@@ -131,7 +130,7 @@ fn split_name(bytes: &[u8]) -> Option<(&[u8], &[u8])>
     Some((name, rest))
 }
 
-/// The size of a link, and the bytes after it.
+/// Returns the size in the entry `Tsize` at the front, and the bytes after it.
 fn split_size(bytes: &[u8]) -> Option<(u64, &[u8])>
     ensures { MatchOption result
         (¬ ((n : ℕ) × (rest : List ℕ)
@@ -143,7 +142,7 @@ fn split_size(bytes: &[u8]) -> Option<(u64, &[u8])>
     Some((size, rest))
 }
 
-/// The name or the size, one of them, and the bytes after it.
+/// Returns the name or else the size at the front, and the bytes after it.
 fn split_one_end(bytes: &[u8]) -> Option<(Option<&[u8]>, Option<u64>, &[u8])>
     ensures { MatchOption result (HasNoEnds 2 bytes.now)
         (λ p. AreEnds 2 bytes.now (option_map (λ b. b.now) p.0) p.1 p.2.now) }
@@ -157,7 +156,7 @@ fn split_one_end(bytes: &[u8]) -> Option<(Option<&[u8]>, Option<u64>, &[u8])>
     }
 }
 
-/// The name and the size, and the bytes after them.
+/// Returns the name and the size at the front, and the bytes after them.
 fn split_both_ends(bytes: &[u8]) -> Option<(Option<&[u8]>, Option<u64>, &[u8])>
     ensures { MatchOption result (HasNoEnds 3 bytes.now)
         (λ p. AreEnds 3 bytes.now (option_map (λ b. b.now) p.0) p.1 p.2.now) }
@@ -167,7 +166,7 @@ fn split_both_ends(bytes: &[u8]) -> Option<(Option<&[u8]>, Option<u64>, &[u8])>
     Some((Some(name), Some(size), rest))
 }
 
-/// The name and the size of a link of so many entries, and the bytes after them.
+/// Returns the name and the size of a link of this many entries, and the bytes after them.
 fn split_ends(count: u64, bytes: &[u8]) -> Option<(Option<&[u8]>, Option<u64>, &[u8])>
     ensures { MatchOption result (HasNoEnds count bytes.now)
         (λ p. AreEnds count bytes.now (option_map (λ b. b.now) p.0) p.1 p.2.now) }
@@ -180,7 +179,7 @@ fn split_ends(count: u64, bytes: &[u8]) -> Option<(Option<&[u8]>, Option<u64>, &
     }
 }
 
-/// The link whose data model stands first, and the bytes after it.
+/// Returns the link whose data model is at the front, and the bytes after it.
 pub(crate) fn next_model_link(bytes: &[u8]) -> Option<(PbLink<'_>, &[u8])>
     ensures { MatchOption result (BeginsNoLinkModel bytes.now)
         (λ p. IsLinkModel bytes.now (link_of p.0) p.1.now) }

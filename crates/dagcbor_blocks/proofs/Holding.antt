@@ -53,7 +53,7 @@ others_held m n name updates q b = (λ e. there (is_at (cid_cmp name) q) refl (s
 
 -- ---- the names
 
--- of these entries so many were listed
+-- the first of these entries were listed, and the rest is left
 pub record NamesSoFar (entries rest : List BlockEntry) (names : List CidParts) : Type 0 where
   pub seen : List BlockEntry
   pub all : entries ≡ seen ++ rest

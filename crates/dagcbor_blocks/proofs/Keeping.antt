@@ -94,7 +94,7 @@ pub still_sound : {X Y : Type 0} (r : Result X Y) (es fs : List BlockEntry) (k :
 still_sound (Ok x) es fs k v put same valid sound h = ∥∥₁_map h (λ s. subst (AllByRecursion IsSoundEntry) (sym put) (sound_inserted es k v s record { valid = valid; sound = sound }))
 still_sound (Err y) es fs k v put same valid sound h = ∥∥₁_map h (λ s. subst (AllByRecursion IsSoundEntry) (sym same) s)
 
--- what is held already
+-- a block that is already stored
 pub held_already : (name : CidParts) (blocks : Held) (b : List ℕ) → block_at name blocks ≡ Some b → HoldsAlso blocks ((name, b) ∷ []) blocks
 held_already name blocks b e q c = (inr, back)
   where
@@ -103,7 +103,7 @@ held_already name blocks b e q c = (inr, back)
     back (inl (inr m)) = absurd m
     back (inr o) = o
 
--- the bytes are found under the name, and under each other name what was found there
+-- the bytes are stored under the name; under other names nothing changes
 abbrev PutsUnder : CidParts → List ℕ → Held → Held → Type 0
 PutsUnder name b old new = (q : CidParts) → block_at q new ≡ cond (is_at (cid_cmp name) q) (Some b) (block_at q old)
 

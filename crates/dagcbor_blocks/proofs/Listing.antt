@@ -40,7 +40,7 @@ Linked es form = (e : BlockEntry) × (links : List (List ℕ)) × Among e es × 
 
 -- ---- the loop over blocks
 
--- the set has what is to be listed of these blocks
+-- the set has the links of these blocks that are to be listed
 abbrev pub MissingOf : {X : Type 0} → BTreeMap CidParts X → List BlockEntry → CidSet → Type 0
 MissingOf blocks vs s = (q : CidParts) → (Among q (members s) → AreCidParts q × Linked vs (cid_bytes q) × IsUnheld blocks q) × (AreCidParts q → Linked vs (cid_bytes q) → IsUnheld blocks q → Among q (members s))
 

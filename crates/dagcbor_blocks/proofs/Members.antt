@@ -1,4 +1,4 @@
--- What is found by a look-up, and what is among the held.
+-- Look-ups, and the stored blocks.
 use Rattle.std.proofs.Common.{◌≡◌, inl, inr, ℕ, List, [], ◌∷◌, Bool, true, false, cond, Less, Equal, refl, sym, ap, ◌∙◌, subst, Some}
 use Rattle.std.specs.List.{AllByRecursion}
 use Rattle.std.specs.List.Sorted.{IsStrictlySortedBy}
@@ -15,7 +15,7 @@ all_among P [] x h m = absurd m
 all_among P (y ∷ ys) x h (inl e) = subst P (sym e) h.0
 all_among P (y ∷ ys) x h (inr m) = all_among P ys x h.1 m
 
--- what is found under a name is among the entries, with it
+-- a value that is found under a name is among the entries, with the name
 pub found_among : {X : Type 0} (q : CidParts) (es : List (CidParts × X)) (v : X) → lookup (is_at (cid_cmp q)) es ≡ Some v → Among (q, v) es
 found_among q [] v e = absurd (cc e)
 found_among q (x ∷ es) v e = by (is_at (cid_cmp q) x.0) refl e (λ l. found_among q es v l)
@@ -24,7 +24,7 @@ found_among q (x ∷ es) v e = by (is_at (cid_cmp q) x.0) refl e (λ l. found_am
     by true t l f = let same : x.1 ≡ v = cc l in let key = at_same q x.0 t in inl (λ i. (key i, sym same i))
     by false t l f = inr (f l)
 
--- where no name repeats, what is among the entries is found under its name
+-- if no name comes twice, an entry is found under its name
 pub among_found : {X : Type 0} (q : CidParts) (v : X) (es : List (CidParts × X)) → IsStrictlySortedBy cid_cmp (keys_of es) → Among (q, v) es → lookup (is_at (cid_cmp q)) es ≡ Some v
 unfolding IsStrictlySortedBy
 among_found q v [] s m = absurd m

@@ -46,7 +46,7 @@ all_push : (xs : List CidParts) (y : CidParts) → AllByRecursion AreCidParts xs
 all_push [] y h p = (p, tt)
 all_push (x ∷ xs) y h p = (h.0, all_push xs y h.1 p)
 
--- what was added of the first so many links
+-- the links so far, if they name no stored block, were added to the set
 abbrev pub AddedSoFar : {X : Type 0} → BTreeMap CidParts X → List CidParts → CidSet → CidSet → Type 0
 AddedSoFar blocks links old new = AllByRecursion AreCidParts links × ((q : CidParts) → Among q (members new) ↔ (Among q (members old) ⊎ (Among q links × IsUnheld blocks q)))
 

@@ -19,7 +19,7 @@ nothing_missing shown entries v none empty =
     let sorted = subst (IsStrictlySortedBy cid_cmp) (sym empty) (search rules) in
     subst P (sym (ap (map shown) (none_of entries none))) (sorted, λ form. (λ m. absurd (subst (λ xs. Among form (forms xs)) empty m), λ l. absurd l.0.2))
 
--- a refusal comes only where some block is held
+-- a refusal comes only if some block is stored
 pub some_held : {A B C : Type 0} (shown : A → B) (entries : List A) (r : Result C BlockError) → (length entries ≡ 0 → ⊥) → OnErr r (map shown entries ≢ [])
 some_held shown entries (Ok v) some = tt
 some_held shown [] (Err e) some = absurd (some refl)

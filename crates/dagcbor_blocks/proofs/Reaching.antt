@@ -14,7 +14,7 @@ use Rattle.dagcbor_blocks.specs.Reaching.{stored, MayLead, IsNotHeld, tree_bytes
 use Rattle.dagcbor_blocks.specs.declared.tree_error.WriteTreeError.TheVariants as trees
 use Rattle.dagcbor_blocks.proofs.Keeping.{shown, block_at_shown}
 
--- what the map stores is what is held
+-- the map stores the blocks of the store
 pub same_stored : (blocks : BTreeMap CidParts (Vec ℕ Global)) → stored_in blocks ≡ stored (shown blocks.entries)
 same_stored blocks = λ i name. sym (block_at_shown name blocks.entries) i
 

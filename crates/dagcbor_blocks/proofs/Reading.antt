@@ -21,7 +21,7 @@ use Rattle.ipld_links.proofs.Members.{among_push, push_among}
 use Rattle.dagcbor_car.proofs.Places.{IsPlace, place_begun, place_more, place_front, place_whole, place_end, ended, ends_same}
 use Rattle.dagcbor_car.proofs.Taking.{each_along, lacks_alike}
 
--- ---- what is held
+-- ---- stored blocks
 
 pub also_none : (blocks : Held) → HoldsAlso blocks [] blocks
 also_none blocks q b = (inr, back)
@@ -51,7 +51,7 @@ sound_push : (ss : List Section) (s : Section) → AllByRecursion IsSound ss →
 sound_push [] s h p = (p, tt)
 sound_push (x ∷ ss) s h p = (h.0, sound_push ss s h.1 p)
 
--- so many sections were taken, and kept
+-- these sections were taken, and stored
 pub record IsReadAt (roots : List (List ℕ)) (sections : List Section) (old : Reading) (before : Held) (extent : Option ℕ) (now : Reading) (after : Held) : Type 0 where
   pub known : (b : List ℕ) → old.left ≡ Some b → (rest : List ℕ) × (now.left ≡ Some rest) × IsPlace b roots sections extent rest
   pub same : Stays old now
@@ -98,7 +98,7 @@ read_whole roots ss extent more old mid new before held after h end same = recor
 
 -- ---- the sections, one by one
 
--- what taking a section does to a store
+-- the effect of taking a section on a store
 abbrev Keeps : SinkTakes Blocks PutBlockError
 Keeps s old result new = PutsBytes s (held_blocks old) result (held_blocks new)
 

@@ -1,4 +1,4 @@
--- What one store writes, an empty one reads.
+-- A file that one store writes is read by an empty one.
 use Rattle.std.proofs.Common.{◌≡◌, inl, inr, ℕ, List, [], ◌∷◌, ◌++◌, length, length-append, refl, sym, ap, ◌∙◌, subst, arith, append_assoc, ◌↔◌, Option, None, Some, Ok, Err, flat_map}
 use Rattle.std.specs.List.{AllByRecursion}
 use Rattle.std.specs.Map.{keys_of}
@@ -44,7 +44,7 @@ same_option None (Some v) h = let clash = (h v).1 refl in absurd (cc clash)
 same_option (Some v) None h = let clash = (h v).0 refl in absurd (cc clash)
 same_option (Some v) (Some w) h = sym ((h v).0 refl)
 
--- what an empty store holds of sections
+-- a store that was empty has only blocks of the sections
 only_these : (sections after : Held) → HoldsAlso [] sections after → (q : CidParts) (c : List ℕ) → block_at q after ≡ Some c → Among {X = Section} (q, c) sections
 only_these sections after h q c e = elim ((h q c).0 e) [ inl m ↦ m | inr clash ↦ absurd (cc clash) ]
 
@@ -62,7 +62,7 @@ among_mid : {X : Type 0} (xs : List X) (x : X) (ys : List X) → Among x (xs ++ 
 among_mid [] x ys = inl refl
 among_mid (z ∷ zs) x ys = inr (among_mid zs x ys)
 
--- what is held is a block under its name
+-- a stored block is sound under its name
 held_named : (es : List BlockEntry) (s : Section) → AllByRecursion IsSoundEntry es → Among s (shown es) → IsSound s
 held_named es s sound m =
     let e = map_among (λ (e : BlockEntry). (e.0, e.1.items)) s es m in
@@ -90,7 +90,7 @@ module _ (roots : List (List ℕ)) (blocks ss after : Held) (s : Section) (finds
 
 -- ---- no refusal of the file
 
--- where no cause stands only want of memory is told
+-- if no cause can hold, a refusal is out of memory
 begins_for_memory : (old new : Reading) (b : List ℕ) (roots : List (List ℕ)) (blocks after : Held) → old.left ≡ Some b → ((c : CarError Infallible) → RefusesStart c b → ⊥) → (c : CarError Infallible) → CarRefuses RefusesStart old c new → IsFilledBack roots blocks (Err (stop.Header c)) after
 begins_for_memory old new b roots blocks after l never (car.Read f) r = elim f [ ]
 begins_for_memory old new b roots blocks after l never car.OutOfMemory r = tt
@@ -101,12 +101,12 @@ goes_on_for_memory extent mid new rest roots blocks after n l never (car.Read f)
 goes_on_for_memory extent mid new rest roots blocks after n l never car.OutOfMemory r = tt
 goes_on_for_memory extent mid new rest roots blocks after n l never c r = absurd (never c (r.1 rest l))
 
--- where sections are left, one stands first
+-- if sections are left, the next is not refused
 never_no_section : (rest : List ℕ) (extent : Option ℕ) (more : List Section) → AllByRecursion IsSection more → wanting extent rest ≡ 0 → bytes_within extent rest ≡ flat_map section_bytes more → (c : CarError Infallible) → RefusesNext extent c rest → ⊥
 never_no_section rest extent [] all none is c r = omega (arith, r.0, none, ap length is)
 never_no_section rest extent (s ∷ more) all none is c r = r.1 s (flat_map section_bytes more) (all.0, is)
 
--- a section that stands first is the next
+-- a section at the front is the next one
 next_among : (rest behind : List ℕ) (ss more blocks : List Section) (s : Section) → AllByRecursion IsSection more → rest ≡ flat_map section_bytes more → blocks ≡ ss ++ more → IsSection s → rest ≡ section_bytes s ++ behind → Among s blocks
 next_among rest behind ss [] blocks s all is whole own first = absurd (omega (arith, section_some s own, ap length (sym is ∙ first), length-append (section_bytes s) behind))
 next_among rest behind ss (t ∷ more) blocks s all is whole own first =

@@ -1,4 +1,4 @@
--- What a store of blocks holds, and what its calls answer.
+-- The blocks of a store, and the answers of its calls.
 use Rattle.std.specs.Prelude.{◌≡◌, ◌≢◌, ◌↔◌, ◌⊎◌, [], ◌∷◌, ℕ, ◌<◌, List, map, Option, None, Some, IfSome, IsSomeAnd, Result, MatchResult, Vec, ⊤, true, Err}
 use Rattle.std.specs.List.Sorted.{IsStrictlySortedBy}
 use Rattle.std.specs.Map.{lookup}
@@ -28,11 +28,11 @@ use Rattle.dagcbor_blocks.specs.declared.error.BlockError.TheVariants.{Encode, D
 use Rattle.dagcbor_blocks.specs.declared.store.Blocks.{Blocks}
 use Rattle.serde_ipld_dagcbor.specs.Steps.{default_steps}
 
--- the names of blocks and their bytes
+-- the names of blocks, and their bytes
 abbrev pub Held : Type 0
 Held = List (CidParts × List ℕ)
 
--- what the store holds: its map's entries
+-- the blocks of the store: the entries of its map
 abbrev pub held_blocks : Blocks → Held
 held_blocks s = map (λ e. (e.0, e.1.items)) s.blocks.entries
 
@@ -40,20 +40,20 @@ held_blocks s = map (λ e. (e.0, e.1.items)) s.blocks.entries
 abbrev pub block_at : CidParts → Held → Option (List ℕ)
 block_at name blocks = lookup (is_at (cid_cmp name)) blocks
 
--- A block is found under a name exactly where the two are among the held.
+-- A look-up finds a block under a name exactly if the two are among the stored blocks.
 abbrev pub FindsMembers : Held → Type 0
 FindsMembers blocks = (name : CidParts) (b : List ℕ)
     → (block_at name blocks ≡ Some b) ↔ Among (name, b) blocks
 
 -- ---- refusals
 
--- a refusal of the value, which says nothing of memory or of a device
+-- a refusal because of the value, not of memory or of a device
 abbrev pub IsRefusalOfValue : {E : Type 0} → EncodeError E → Type 0
 IsRefusalOfValue (unwritten.Msg m) = ⊤
 IsRefusalOfValue (unwritten.Write e) = ⊥
 IsRefusalOfValue unwritten.OutOfMemory = ⊥
 
--- a refusal of the bytes, which says nothing of memory, of a source, of a loan or of earlier calls
+-- a refusal because of the bytes, not of memory, a source, a loan or earlier calls
 abbrev pub IsRefusalOfBytes : {E : Type 0} → DecodeError E → Type 0
 IsRefusalOfBytes (unread.Read e) = ⊥
 IsRefusalOfBytes unread.OutOfMemory = ⊥
@@ -61,24 +61,24 @@ IsRefusalOfBytes (unread.RequireBorrowed name) = ⊥
 IsRefusalOfBytes unread.Failed = ⊥
 IsRefusalOfBytes _ = ⊤
 
--- the tree needs more than 256 steps, and the cause of this refusal stands in its spelling
+-- the tree needs more than 256 steps, and its spelling is refused for this cause
 abbrev pub ExceedsSteps : DecodeError Infallible → Tree → Type 0
 ExceedsSteps e t = (default_steps < any_need t) × (e ≢ unread.OutOfMemory)
     × AnswersLinks (decode_first (spelling t)) (Err e)
 
--- other bytes than these are held under the name
+-- other bytes than these are stored under the name
 abbrev pub HoldsOther : CidParts → List ℕ → Held → Type 0
 HoldsOther name b blocks = (c : List ℕ) × (block_at name blocks ≡ Some c) × (c ≢ b)
 
--- ---- putting
+-- ---- storing
 
--- what is held is what was held, and these, each under its name
+-- the new blocks are the old ones and these, each under its name
 abbrev pub HoldsAlso : Held → Held → Held → Type 0
 HoldsAlso old these new = (q : CidParts) (b : List ℕ)
     → (block_at q new ≡ Some b) ↔ (Among (q, b) these ⊎ (block_at q old ≡ Some b))
 
--- why a value is not kept: it has no tree, or its tree no spelling; its spelling's tree needs more
--- than 256 steps; or other bytes are held under its name
+-- why a value is not stored: it has no tree, or its tree no spelling; or the tree needs more than
+-- 256 steps; or other bytes are stored under its name
 abbrev pub ValueRefused : Option Tree → Held → BlockError → Type 0
 ValueRefused tree old (Encode e) = IsRefusalOfValue e × IfSome tree (λ t. ¬ IsSpellable t)
 ValueRefused tree old (Decode e) = IsSomeAnd tree (ExceedsSteps e)
@@ -86,29 +86,29 @@ ValueRefused tree old Collision = IsSomeAnd tree (λ t. HoldsOther (block_name (
 ValueRefused tree old OutOfMemory = ⊤
 ValueRefused tree old OtherCodec = ⊥
 
--- The spelling of the value's tree is kept under its name. A refusal changes nothing.
+-- The spelling of the value's tree is stored under its name. A refusal changes nothing.
 abbrev pub Puts : Option Tree → Held → Result CidParts BlockError → Held → Type 0
 Puts tree old result new = MatchResult result
     (λ name. IsSomeAnd tree (λ t. IsBlock (spelling t) t × (name ≡ block_name (spelling t))
     × HoldsAlso old ((name, spelling t) ∷ []) new))
     (λ e. (new ≡ old) × ValueRefused tree old e)
 
--- ---- getting
+-- ---- reading
 
--- the bytes are held under the name, by which their SHA-256 is its digest
+-- the bytes are stored under the name, so their SHA-256 is its digest
 abbrev pub HoldsBytes : CidParts → List ℕ → Held → Type 0
 HoldsBytes name b blocks = (block_at name blocks ≡ Some b) × (name.digest ≡ sha256 b)
 
--- a block is held under the name, of another codec than DAG-CBOR
+-- a block is stored under the name, and its codec is not DAG-CBOR
 abbrev pub HoldsUnread : CidParts → Held → Type 0
 HoldsUnread name blocks = ((b : List ℕ) × HoldsBytes name b blocks) × ¬ IsDagCbor name
 
--- a block of DAG-CBOR is held under the name
+-- a block of DAG-CBOR is stored under the name
 abbrev pub HoldsRead : CidParts → List ℕ → Held → Type 0
 HoldsRead name b blocks = HoldsBytes name b blocks × IsDagCbor name
 
--- why a held block is not read: the type does not accept it; or want of memory, which reading the
--- type may take; or it is of another codec
+-- why a stored block is not read: the type does not accept it; or memory ran out, which needs a
+-- type that takes memory; or its codec is not DAG-CBOR
 abbrev pub NotReadAs : {V : Type 0} → Shape Tree V → CidParts → Held → BlockError → Type 0
 NotReadAs shape name blocks (Encode e) = ⊥
 NotReadAs {V} shape name blocks (Decode e) = IsRefusalOfBytes e
@@ -118,31 +118,31 @@ NotReadAs shape name blocks OutOfMemory = ((b : List ℕ) × HoldsRead name b bl
     × (shape.memory true ≡ true)
 NotReadAs shape name blocks OtherCodec = HoldsUnread name blocks
 
--- none where no block has the name, else what the held block shows to the type
+-- `None` if no block has the name; else the value that the stored block shows to the type
 abbrev pub GetsHeld : {T V : Type 0} → (T → V) → Shape Tree V → CidParts → Held → Option T → Type 0
 GetsHeld show shape name blocks None = block_at name blocks ≡ None
 GetsHeld show shape name blocks (Some v) = (b : List ℕ) × HoldsRead name b blocks
     × IsWhole shape default_steps b (show v)
 
--- None is answered exactly where no block has the name, else what the tree shows whose spelling is
--- held; refused only where the block is of another codec, or the type does not accept that tree within
--- 256 steps.
+-- The answer is `None` exactly if no block has the name; else the value that the tree of the stored
+-- spelling shows. It is refused only if the codec is not DAG-CBOR, the type does not accept that
+-- tree within 256 steps, or memory runs out.
 abbrev pub Gets : {T V : Type 0} → (T → V) → Shape Tree V → CidParts → Held
     → Result (Option T) BlockError → Type 0
 Gets show shape name blocks result = MatchResult result (GetsHeld show shape name blocks) (NotReadAs shape name blocks)
 
 -- ---- links
 
--- the binary form is that of a link in a held block of DAG-CBOR or DAG-PB
+-- the binary form is that of a link in a stored block of DAG-CBOR or DAG-PB
 abbrev pub IsHeldLink : List ℕ → Held → Type 0
 IsHeldLink form blocks = (e : CidParts × List ℕ) × (links : List (List ℕ)) × Among e blocks
     × HasLinks e.0.codec e.1 links × Among form links
 
--- it names no held block
+-- the binary form is not that of a stored block's name
 abbrev pub NamesNoneHeld : List ℕ → Held → Type 0
 NamesNoneHeld form blocks = (e : CidParts × List ℕ) → Among e blocks → cid_bytes e.0 ≢ form
 
--- The links in held blocks of DAG-CBOR and DAG-PB that name no held block, of whatever codec, are listed, each once, in their order.
+-- The links in stored DAG-CBOR and DAG-PB blocks that name no stored block: each once, in order.
 abbrev pub ListsUnheld : Held → Result (Vec CidParts Global) BlockError → Type 0
 ListsUnheld blocks result = MatchResult result
     (λ v. IsStrictlySortedBy cid_cmp v.items × ((form : List ℕ) → Among form (forms v.items) ↔ (IsHeldLink form blocks × NamesNoneHeld form blocks)))

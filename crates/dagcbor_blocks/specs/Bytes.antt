@@ -1,4 +1,4 @@
--- Blocks that are kept and handed out as bytes.
+-- Storing and returning blocks as bytes.
 use Rattle.std.specs.Prelude.{◌≡◌, ◌≢◌, ◌↔◌, ℕ, List, [], ◌∷◌, map, is_some, Bool, Some, Result, MatchResult, Vec}
 use Rattle.std.specs.List.Sorted.{IsStrictlySortedBy}
 use Rattle.std.specs.declared.alloc.Global.{Global}
@@ -9,27 +9,27 @@ use Rattle.dagcbor_blocks.specs.Blocks.{Held, block_at, HoldsAlso, HoldsOther}
 use Rattle.dagcbor_blocks.specs.declared.put_error.PutBlockError.{PutBlockError}
 use Rattle.dagcbor_blocks.specs.declared.put_error.PutBlockError.TheVariants.{Unsound, Collision, OutOfMemory}
 
--- why bytes are not kept under a name: memory is wanted only for a sound block
+-- why bytes are not stored under a name: memory runs out only for a sound block
 abbrev pub PutBytesRefused : Section → Held → PutBlockError → Type 0
 PutBytesRefused s held (Unsound e) = IsUnsound s e
 PutBytesRefused s held Collision = IsSound s × HoldsOther s.0 s.1 held
 PutBytesRefused s held OutOfMemory = IsSound s
 
--- A sound block is kept under its name. A refusal changes nothing.
+-- A sound block is stored under its name. A refusal changes nothing.
 abbrev pub PutsBytes : Section → Held → Result (Unit {0}) PutBlockError → Held → Type 0
 PutsBytes s old result new = MatchResult result
     (λ _. IsSound s × HoldsAlso old (s ∷ []) new)
     (λ e. (new ≡ old) × PutBytesRefused s old e)
 
--- whether a block is held under the name
+-- whether a block is stored under the name
 abbrev pub is_held : CidParts → Held → Bool
 is_held name blocks = is_some (block_at name blocks)
 
--- what is held is what was held under other names
+-- the new blocks are the old ones under other names
 abbrev pub HoldsOthers : CidParts → Held → Held → Type 0
 HoldsOthers name old new = (q : CidParts) (b : List ℕ)
     → (block_at q new ≡ Some b) ↔ ((q ≢ name) × (block_at q old ≡ Some b))
 
--- the names of the held blocks, each once, in their order
+-- the names of the stored blocks, each once, in the order of CIDs
 abbrev pub AreHeldNames : Held → Vec CidParts Global → Type 0
 AreHeldNames blocks v = (v.items ≡ map (λ e. e.0) blocks) × IsStrictlySortedBy cid_cmp v.items

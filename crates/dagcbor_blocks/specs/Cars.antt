@@ -1,4 +1,4 @@
--- What is read into a store from a CAR file.
+-- Reading a CAR file into a store.
 use Rattle.std.specs.Prelude.{◌≡◌, ◌⊎◌, ℕ, List, length, Option, Some, Result, Err, MatchResult, Vec}
 use Rattle.std.specs.List.{AllByRecursion}
 use Rattle.std.specs.declared.alloc.Global.{Global}
@@ -20,8 +20,8 @@ use Rattle.dagcbor_blocks.specs.declared.put_error.PutBlockError.{PutBlockError}
 
 -- ---- the file
 
--- the header of these roots and these sections stood first in a file, and were taken, and so much of it
--- is left; the sections are sound, and what is held is what was held, and these
+-- the header of these roots and these sections were taken from the front of a file, and this much
+-- of it is left; the sections are sound, and were added to the stored blocks
 pub record IsKeptTo (roots : List (List ℕ)) (sections : List Section) (old : Reading)
     (before : Held) (extent : Option ℕ) (now : Reading) (after : Held) : Type 0 where
   pub known : (b : List ℕ) → old.left ≡ Some b → (rest : List ℕ) × (now.left ≡ Some rest)
@@ -30,14 +30,14 @@ pub record IsKeptTo (roots : List (List ℕ)) (sections : List Section) (old : R
   pub blocks : AllByRecursion IsSound sections
   pub holds : HoldsAlso before sections after
 
--- the bytes left, where they are known, are the file of these roots and sections, and it is taken, and
--- nothing after it
+-- the bytes left, if they are known, are the file of these roots and sections; it was taken, and
+-- the bytes after it are left
 abbrev pub TakesCar : Reading → List (List ℕ) → List Section → Reading → Type 0
 TakesCar old roots sections new = (b : List ℕ) → old.left ≡ Some b
     → IsFile b roots sections × ((rest : List ℕ) × StandBehind b rest × (new.left ≡ Some rest))
 
--- the whole file was taken, with these sections: all are sound, and what is held
--- is what was held, and these
+-- the whole file was taken, with these sections: all
+-- are sound, and were added to the stored blocks
 pub record KeepsAll (roots : List (List ℕ)) (sections : List Section) (old : Reading)
     (before : Held) (new : Reading) (after : Held) : Type 0 where
   pub is_car : TakesCar old roots sections new
@@ -45,8 +45,8 @@ pub record KeepsAll (roots : List (List ℕ)) (sections : List Section) (old : R
   pub blocks : AllByRecursion IsSound sections
   pub holds : HoldsAlso before sections after
 
--- why no section more is kept, after so many: none stands there, though bytes do, or are wanting; or
--- the next, which was taken, is refused
+-- why no section is stored after `count` others: bytes are left or missing, and no section begins;
+-- or the next one, which was taken, is refused
 abbrev pub KeepsNoneNext : {E : Type 0} → ℕ → Option ℕ → Reading → Held → ReadCarError E PutBlockError → Reading
     → Type 0
 KeepsNoneNext count extent old held (stop.Header e) new = ⊥
@@ -54,14 +54,14 @@ KeepsNoneNext count extent old held (stop.Section n e) new = (n ≡ count) × No
 KeepsNoneNext count extent old held (stop.Block n name e) new = (s : Section) × (more : Option ℕ)
     × (n ≡ count) × TakesSectionBytes extent old s more new × (name ≡ s.0) × PutBytesRefused s held e
 
--- no file begins, for this cause; memory is wanted only for a header
+-- no file begins, for this cause; memory runs out only for a header
 abbrev pub NoFileBegins : {E : Type 0} → Reading → ReadCarError E PutBlockError → Reading → Type 0
 NoFileBegins old (stop.Header e) new = CarRefuses RefusesStart old e new
     × LacksMemoryIf {T = Unit {0}} (FileLacks old) (Err e)
 NoFileBegins old _ new = ⊥
 
--- why a file is not read, and what is held: no file begins; or else all sections up to a place were
--- kept, and no more
+-- why a file is not read, and which blocks are stored: no file begins; or all sections up to a
+-- place were stored, and no more
 abbrev pub FileUnread : {E : Type 0} → Reading → Held → ReadCarError E PutBlockError → Reading → Held
     → Type 0
 FileUnread old before e new after = (NoFileBegins old e new × (after ≡ before))
@@ -69,8 +69,8 @@ FileUnread old before e new after = (NoFileBegins old e new × (after ≡ before
     × IsKeptTo roots sections old before extent mid after
     × (KeepsNoneNext (length sections) extent mid after e new ⊎ ((new ≡ mid) × AreTooMany sections e)))
 
--- A file of either version is read exactly where all of its sections are sound, faults, want of
--- memory and collisions aside. What is held is what was held, and the sections taken.
+-- A file of either version is read exactly if all of its sections are sound, unless the source
+-- faults, memory runs out, or names collide. The sections taken are added to the stored blocks.
 abbrev pub ReadsCar : {E : Type 0} → Reading → Held
     → Result (Vec CidParts Global) (ReadCarError E PutBlockError) → Reading → Held → Type 0
 ReadsCar old before result new after = MatchResult result

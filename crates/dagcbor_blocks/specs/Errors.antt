@@ -1,4 +1,4 @@
--- How refusals of reading and writing are told.
+-- How errors of reading and writing become those of a store.
 use Rattle.std.specs.Prelude.{◌≡◌}
 use Rattle.std.specs.declared.convert.Infallible.{Infallible}
 use Rattle.serde_ipld_dagcbor.specs.DecodeError.{DecodeError}
@@ -8,12 +8,12 @@ use Rattle.serde_ipld_dagcbor.specs.EncodeError.TheVariants as unwritten
 use Rattle.dagcbor_blocks.specs.declared.error.BlockError.{BlockError}
 use Rattle.dagcbor_blocks.specs.declared.error.BlockError.TheVariants.{Encode, Decode, OutOfMemory}
 
--- want of memory is never inside another refusal
+-- out of memory becomes `OutOfMemory`, and any other error a `Decode`
 abbrev pub TellsOfDecoding : DecodeError Infallible → BlockError → Type 0
 TellsOfDecoding unread.OutOfMemory told = told ≡ OutOfMemory
 TellsOfDecoding error told = told ≡ Decode error
 
--- want of memory is told as such, and another refusal of the value as its own
+-- out of memory becomes `OutOfMemory`, and any other error an `Encode`
 abbrev pub TellsOfEncoding : EncodeError Infallible → BlockError → Type 0
 TellsOfEncoding unwritten.OutOfMemory told = told ≡ OutOfMemory
 TellsOfEncoding error told = told ≡ Encode error

@@ -1,4 +1,4 @@
--- Writing a store as a file and reading it undo each other.
+-- Writing a store as a CAR file, and reading it back.
 use Rattle.std.specs.Prelude.{◌≡◌, ℕ, List, [], ⊤, Some, Result, Ok, Err, Vec}
 use Rattle.std.specs.declared.alloc.Global.{Global}
 use Rattle.std.specs.declared.convert.Infallible.{Infallible}
@@ -14,7 +14,7 @@ use Rattle.dagcbor_car.specs.declared.each.ReadCarError.TheVariants as stop
 use Rattle.dagcbor_blocks.specs.declared.put_error.PutBlockError.{PutBlockError}
 use Rattle.dagcbor_blocks.specs.declared.put_error.PutBlockError.TheVariants as puts
 
--- these roots were read, and under each name stands what stood there; or memory was wanting
+-- these roots were read, and each name has the block that it had; or memory ran out
 abbrev pub IsFilledBack : List (List ℕ) → Held
     → Result (Vec CidParts Global) (ReadCarError Infallible PutBlockError) → Held → Type 0
 IsFilledBack roots blocks (Ok v) after = (forms v.items ≡ roots)
@@ -24,7 +24,7 @@ IsFilledBack roots blocks (Err (stop.Section n car.OutOfMemory)) after = ⊤
 IsFilledBack roots blocks (Err (stop.Block n name puts.OutOfMemory)) after = ⊤
 IsFilledBack roots blocks (Err _) after = ⊥
 
--- What a store that holds these blocks writes is read into an empty store as the same blocks.
+-- If a store of these blocks is written, an empty store that reads the file has the same blocks.
 abbrev pub WrittenThenFilled : Held → Type 0
 WrittenThenFilled blocks = (b : List ℕ) (roots : List (List ℕ)) (old new : Reading) (after : Held)
     (result : Result (Vec CidParts Global) (ReadCarError Infallible PutBlockError))

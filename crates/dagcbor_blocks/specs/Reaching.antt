@@ -1,4 +1,4 @@
--- The blocks that links lead to within a store, and the file of them.
+-- The blocks that links lead to within a store, and the CAR file of them.
 use Rattle.std.specs.Prelude.{◌≡◌, ◌⊎◌, List, [], ◌∷◌, ℕ, Bool, true, false, Some, Result, MatchResult}
 use Rattle.serde_ipld_dagcbor.specs.Cid.{CidParts, cid_bytes}
 use Rattle.serde_ipld_dagcbor.specs.Written.{Written, WroteAll, Stops}
@@ -12,32 +12,32 @@ use Rattle.dagcbor_blocks.specs.Bytes.{is_held}
 use Rattle.dagcbor_blocks.specs.declared.tree_error.WriteTreeError.{WriteTreeError}
 use Rattle.dagcbor_blocks.specs.declared.tree_error.WriteTreeError.TheVariants.{NotHeld, Write, OutOfMemory}
 
--- the held bytes under each name
+-- the bytes stored under each name
 abbrev pub stored : Held → Stored
 stored blocks name = block_at name blocks
 
--- a block is held under the name, or the name is by the identity
+-- a block is stored under the name, or the name is by the identity
 abbrev pub MayLead : Held → CidParts → Type 0
 MayLead blocks name = (is_held name blocks ≡ true) ⊎ IsInline name
 
--- no block is held under the name, which is not by the identity
+-- no block is stored under the name, and it is not by the identity
 abbrev pub IsNotHeld : Held → CidParts → Type 0
 IsNotHeld blocks name = (is_held name blocks ≡ false) × ¬ IsInline name
 
--- ---- a file of them
+-- ---- a CAR file of them
 
--- the file of this root, and of the held blocks of these names
+-- the file with this root, and the stored blocks with these names
 abbrev pub tree_bytes : Held → CidParts → List CidParts → List ℕ
 tree_bytes blocks root names = car_bytes (cid_bytes root ∷ []) (sections_at (stored blocks) names)
 
--- The root leads somewhere, and so it holds of a list of the names that links lead to from there.
+-- the root may lead somewhere, and `Holds` is true of a list of the names that links lead to
 abbrev pub OfReachable : Held → CidParts → (List CidParts → Type 0) → Type 0
 OfReachable blocks root Holds = MayLead blocks root
     × ((names : List CidParts) × ListsReachable (stored blocks) root names × Holds names)
 
--- why the file was not written as a whole: the root leads nowhere, and nothing was sent; the writer
--- faulted, and a beginning was; or memory was wanting, before anything was sent where the writer
--- takes none
+-- why the file was not written as a whole: the root leads nowhere, and nothing was
+-- sent; or the writer faulted after a beginning; or memory ran out, before
+-- anything was sent if the writer takes no memory
 abbrev pub TreeUnwritten : {E : Type 0} → Held → CidParts → Bool → Written → WriteTreeError E
     → Written → Type 0
 TreeUnwritten blocks root takes_memory old NotHeld new = IsNotHeld blocks root × (new ≡ old)
@@ -47,7 +47,7 @@ TreeUnwritten {E} blocks root takes_memory old OutOfMemory new = (takes_memory �
     × ((MayLead blocks root × (new ≡ old)) ⊎ OfReachable blocks root
     (λ names. Stops {E = E} (Some (tree_bytes blocks root names)) old new unwritten.OutOfMemory))
 
--- The file of the root, and of the held blocks that links lead to from there, is appended.
+-- The file of the root, and of the stored blocks that links lead to from there, is appended.
 abbrev pub WritesHeldTree : {T E : Type 0} → Held → CidParts → Bool → Written
     → Result T (WriteTreeError E) → Written → Type 0
 WritesHeldTree blocks root takes_memory old result new = MatchResult result

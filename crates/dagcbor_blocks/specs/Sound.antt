@@ -1,4 +1,4 @@
--- What is known of each block that is held.
+-- The invariant of each stored block.
 use Rattle.std.specs.Prelude.{ℕ, Vec}
 use Rattle.std.specs.declared.alloc.Global.{Global}
 use Rattle.serde_ipld_dagcbor.specs.Cid.{CidParts, AreCidParts}

@@ -1,4 +1,4 @@
-//! Keeping blocks, reading them, and finding links that lead nowhere.
+//! Stores blocks, reads them, and finds links that lead to no stored block.
 
 ghost use Rattle.std.specs.Prelude.{◌≡◌, ◌≢◌, [], true, IfOk, IfSome, OnErr};
 ghost use Rattle.dagcbor_blocks.specs.Blocks.{held_blocks, Puts, Gets, ListsUnheld};
@@ -13,7 +13,7 @@ use serde_ipld_dagcbor::{Cid, Deserialize, Serialize, from_slice, laws, links_fr
 use std::alloc::{AllocError, Global};
 use std::collections::BTreeMap;
 
-/// Whether a spelling is read within 256 steps: its links are.
+/// Validates that the links of a spelling are read within 256 steps.
 fn check_depth(alloc: Global, bytes: &[u8]) -> Result<(), BlockError>
     requires { HasTree bytes.now }
     ensures { ChecksDepth bytes.now result }
@@ -26,7 +26,7 @@ fn check_depth(alloc: Global, bytes: &[u8]) -> Result<(), BlockError>
 }
 
 impl Blocks {
-    /// A store that holds nothing.
+    /// Returns an empty store.
     pub fn new(alloc: Global) -> Blocks
         ensures { held_blocks result ≡ [] }
     {
@@ -34,7 +34,7 @@ impl Blocks {
         Blocks { alloc, blocks }
     }
 
-    /// Keeps the value's spelling under its name. A refusal changes nothing.
+    /// Stores the value's spelling under its name. A refusal changes nothing.
     pub fn put<T: Serialize>(&mut self, value: &T) -> Result<Cid, BlockError>
         ensures { Puts (T.tree value.now) (held_blocks self.old) result (held_blocks self.new) }
     {
@@ -48,12 +48,12 @@ impl Blocks {
         self.store(name, bytes)
     }
 
-    /// Keeps a sound block under its name.
+    /// Stores a sound block under its name.
     pub(crate) fn store(&mut self, name: Cid, bytes: Vec<u8>) -> Result<Cid, BlockError>
         requires { IsSound (name, bytes.items) }
         ensures { StoresBlock name bytes.items (held_blocks self.old) result (held_blocks self.new) }
     {
-        // What is known of a CID comes with its version.
+        // The contract of `version` tells the proof what holds of a CID.
         let _version = name.version();
         match self.blocks.get(&name) {
             Some(other) => {
@@ -70,8 +70,8 @@ impl Blocks {
         }
     }
 
-    /// The block under the name, which must be DAG-CBOR, read as a value. None where no block is held
-    /// under it.
+    /// Reads the block under the name as a value. `None` if no block is stored under it. The block
+    /// must be DAG-CBOR.
     pub fn get<'a, T: Deserialize<'a>>(&'a self, name: &Cid) -> Result<Option<T>, BlockError>
         ensures gets { Gets T.meaning T.shape name.now (held_blocks self.now) result }
         ensures lies { IfOk result (λ found. IfSome found (T.lies true)) }
@@ -88,9 +88,9 @@ impl Blocks {
         }
     }
 
-    /// The links in held blocks of DAG-CBOR and DAG-PB that name no held block, each once, in their
-    /// order. Links in blocks of another codec are not read. A link by the identity is listed as any other, and the
-    /// block in its digest, which is not held, is not read.
+    /// Returns the links in stored blocks of DAG-CBOR and DAG-PB that name no stored block, each
+    /// once, in the order of CIDs. Links in blocks of other codecs are not read. A link by the
+    /// identity is listed like any other. The block in its digest is not stored, so it is not read.
     pub fn missing(&self) -> Result<Vec<Cid>, BlockError>
         ensures lists { ListsUnheld (held_blocks self.now) result }
         ensures memory { OnErr result (held_blocks self.now ≢ []) }
@@ -101,7 +101,7 @@ impl Blocks {
         self.missing_of_some()
     }
 
-    /// What `missing` answers, of whatever is held.
+    /// Does what `missing` does, of an empty store too.
     fn missing_of_some(&self) -> Result<Vec<Cid>, BlockError>
         ensures { ListsUnheld (held_blocks self.now) result }
     {
@@ -124,7 +124,7 @@ impl Blocks {
         }
     }
 
-    /// Adds those of the links that name no held block.
+    /// Adds those of the links that name no stored block.
     fn add_missing(&self, links: &[Cid], missing: &mut CidSet) -> Result<(), AllocError>
         ensures { AddsMissing self.now.blocks links.now missing.old result missing.new }
     {
@@ -137,7 +137,7 @@ impl Blocks {
     fn add_if_missing(&self, link: &Cid, missing: &mut CidSet) -> Result<(), AllocError>
         ensures { AddsOne self.now.blocks link.now missing.old result missing.new }
     {
-        // What is known of a CID comes with its version.
+        // The contract of `version` tells the proof what holds of a CID.
         let _version = link.version();
         let is_held = self.blocks.contains_key(link);
         if is_held {

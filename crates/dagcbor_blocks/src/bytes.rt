@@ -1,4 +1,4 @@
-//! Keeping blocks as bytes, and handing them out.
+//! Stores blocks as bytes, and returns them.
 
 ghost use Rattle.std.specs.Prelude.{◌≡◌, ◌≢◌, [], length, IfOk, OnErr, MatchOption, None};
 ghost use Rattle.dagcbor_blocks.specs.Blocks.{held_blocks, block_at, HoldsBytes};
@@ -12,9 +12,10 @@ use serde_ipld_dagcbor::Cid;
 use std::alloc::AllocError;
 
 impl Blocks {
-    /// Keeps a copy of the block under the name, whatever its codec. The digest of the name must be
-    /// the SHA-256 of the block, of 32 bytes, and where the codec is DAG-CBOR, the block must be one
-    /// that is read within 256 steps. A refusal changes nothing.
+    /// Stores a copy of the block under the name, whatever its codec. The digest in the name must
+    /// be the SHA-256 of the block, of 32 bytes. If its codec is DAG-CBOR, the block must be read
+    /// within 256 steps. If its codec is DAG-PB, the block must be a node. A refusal changes
+    /// nothing.
     pub fn put_block(&mut self, name: &Cid, bytes: &[u8]) -> Result<(), PutBlockError>
         ensures { PutsBytes (name.now, bytes.now) (held_blocks self.old) result
             (held_blocks self.new) }
@@ -32,7 +33,7 @@ impl Blocks {
         }
     }
 
-    /// The block under the name, as it was kept.
+    /// Returns the block under the name, as it was stored.
     pub fn get_block(&self, name: &Cid) -> Option<&[u8]>
         ensures { MatchOption result
             (block_at name.now (held_blocks self.now) ≡ None)
@@ -44,21 +45,21 @@ impl Blocks {
         }
     }
 
-    /// Whether a block is held under the name.
+    /// Returns whether a block is stored under the name.
     pub fn contains(&self, name: &Cid) -> bool
         ensures { result ≡ is_held name.now (held_blocks self.now) }
     {
         self.get_block(name).is_some()
     }
 
-    /// How many blocks are held.
+    /// Returns how many blocks are stored.
     pub fn len(&self) -> usize
         ensures { result ≡ length (held_blocks self.now) }
     {
         self.blocks.len()
     }
 
-    /// The names of the held blocks, in their order.
+    /// Returns the names of the stored blocks, in the order of CIDs.
     pub fn names(&self) -> Result<Vec<Cid>, AllocError>
         ensures names { IfOk result (AreHeldNames (held_blocks self.now)) }
         ensures memory { OnErr result (held_blocks self.now ≢ []) }
@@ -70,7 +71,7 @@ impl Blocks {
         Ok(names)
     }
 
-    /// Lets go of the block under the name, and answers whether one was held.
+    /// Removes the block under the name, and returns whether there was one.
     pub fn remove(&mut self, name: &Cid) -> bool
         ensures answer { result ≡ is_held name.now (held_blocks self.old) }
         ensures others { HoldsOthers name.now (held_blocks self.old) (held_blocks self.new) }

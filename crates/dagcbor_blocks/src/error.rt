@@ -1,4 +1,4 @@
-//! Why a block was not kept or not read.
+//! Why a block was not stored or not read.
 
 ghost use Rattle.dagcbor_blocks.specs.Errors.{TellsOfDecoding, TellsOfEncoding};
 
@@ -6,27 +6,28 @@ use serde_ipld_dagcbor::{DecodeError, EncodeError};
 use std::convert::Infallible;
 use thiserror::Error;
 
-/// Why a block was not kept or not read.
+/// Why a block was not stored or not read.
 #[derive(Debug, Drop, Error)]
 pub enum BlockError {
-    /// The value has no spelling.
+    /// The value cannot be encoded.
     #[error("encode error: {0}")]
     Encode(EncodeError<Infallible>),
-    /// The block is not read as the type within 256 steps; of `put`: its links are not.
+    /// In `get`: the block is not read as the type within 256 steps. In `put`: the links of the
+    /// spelling are not read within 256 steps.
     #[error("decode error: {0}")]
     Decode(DecodeError<Infallible>),
     #[error("other bytes are held under the name")]
     Collision,
-    /// A growth was refused.
+    /// Memory could not be allocated.
     #[error("out of memory")]
     OutOfMemory,
-    /// Of `get`: the block is of another codec than DAG-CBOR.
+    /// In `get`: the codec of the block is not DAG-CBOR.
     #[error("the block is of another codec than DAG-CBOR")]
     OtherCodec,
 }
 
 impl BlockError {
-    /// Want of memory is told as such.
+    /// Converts the error. Out of memory becomes `OutOfMemory`.
     pub(crate) fn of_decoding(error: DecodeError<Infallible>) -> BlockError
         ensures { TellsOfDecoding error result }
     {
@@ -36,7 +37,7 @@ impl BlockError {
         }
     }
 
-    /// Want of memory is told as such.
+    /// Converts the error. Out of memory becomes `OutOfMemory`.
     pub(crate) fn of_encoding(error: EncodeError<Infallible>) -> BlockError
         ensures { TellsOfEncoding error result }
     {

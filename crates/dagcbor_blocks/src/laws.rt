@@ -1,4 +1,4 @@
-//! Laws of the definitions, each the contract of a function that does nothing.
+//! Laws of the definitions. Each is the contract of a function that does nothing.
 
 ghost use Rattle.dagcbor_blocks.specs.Blocks.{held_blocks, FindsMembers};
 ghost use Rattle.dagcbor_blocks.specs.Laws.{WrittenThenFilled};
@@ -6,21 +6,22 @@ ghost use Rattle.dagcbor_blocks.specs.Laws.{WrittenThenFilled};
 use crate::store::Blocks;
 use dagcbor_car::laws::files_are_unique;
 
-/// A block is found under a name exactly where the two are among the held blocks: what `put` and
-/// `get` say by look-ups and `missing` by members is said of the same blocks.
+/// A look-up finds a block under a name exactly if the two are among the stored blocks. So the
+/// contracts of `put` and `get`, which speak of look-ups, and that of `missing`, which speaks of
+/// members, say it of the same blocks.
 pub fn lookup_finds_members(blocks: &Blocks)
     ensures { FindsMembers (held_blocks blocks.now) }
 {
-    // No effect at run time. The proof reads from this call that no name repeats.
+    // This call has no effect. Its contract tells the proof that no name comes twice.
     let _ = blocks.blocks.iter();
 }
 
-/// What `write_car` writes of one store, `read_car` reads into an empty one, as the same blocks.
+/// An empty store that reads what `write_car` wrote from another store has the same blocks.
 pub fn written_then_read(blocks: &Blocks)
     ensures { WrittenThenFilled (held_blocks blocks.now) }
 {
-    // No effect at run time. The proof reads from these calls that no name repeats, and that bytes
-    // are one file.
+    // These calls have no effect. Their contracts tell the proof that no name comes twice, and that
+    // the bytes are only one file.
     let _ = blocks.blocks.iter();
     files_are_unique();
 }

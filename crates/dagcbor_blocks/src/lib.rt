@@ -1,6 +1,6 @@
-//! DAG-CBOR blocks under their names.
+//! Stores blocks of DAG-CBOR under their names.
 //!
-//! Two blocks, and the first again (`src/tests/store.rt` of `crates/tests_car`):
+//! Stores two blocks, and reads the first back (`src/tests/store.rt` of `crates/tests_car`):
 //!
 //! ```rust
 //! let mut blocks = Blocks::new(alloc);

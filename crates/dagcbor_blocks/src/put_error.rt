@@ -1,17 +1,17 @@
-//! Why bytes were not kept as a block.
+//! Why bytes were not stored as a block.
 
 use ipld_links::Unsound;
 use thiserror::Error;
 
-/// Why bytes were not kept as a block under a name.
+/// Why bytes were not stored as a block under a name.
 #[derive(Debug, Drop, Error)]
 pub enum PutBlockError {
-    /// The bytes are not those of the name, or no DAG-CBOR where its codec is that.
+    /// The bytes are not those of the name, or not a block of its codec, DAG-CBOR or DAG-PB.
     #[error("{0}")]
     Unsound(Unsound),
     #[error("other bytes are held under the name")]
     Collision,
-    /// A growth was refused.
+    /// Memory could not be allocated.
     #[error("out of memory")]
     OutOfMemory,
 }

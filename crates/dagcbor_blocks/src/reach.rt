@@ -11,9 +11,9 @@ use serde_ipld_dagcbor::Cid;
 use std::alloc::AllocError;
 
 impl Blocks {
-    /// The names of the held blocks that links lead to from the root within the store, each once:
-    /// depth first, the root first, and the links of a block as they stand. A name by the identity
-    /// holds its block itself: it is not listed, and the links in that block are followed.
+    /// Returns the names of the stored blocks that links lead to from the root, each once. They
+    /// come depth first, the root first, with the links of a block in their order. A name by the
+    /// identity holds its block itself: it is not listed, but the links in that block are followed.
     pub fn reachable(&self, root: &Cid) -> Result<Vec<Cid>, AllocError>
         ensures reachable { IfOk result
             (λ v. ListsReachable (stored (held_blocks self.now)) root.now v.items) }
@@ -25,7 +25,7 @@ impl Blocks {
         self.reach(root)
     }
 
-    /// Whether a block is held under the name, or the name is by the identity.
+    /// Returns whether a block is stored under the name, or the name is by the identity.
     pub(crate) fn may_lead(&self, name: &Cid) -> bool
         ensures { MatchBool result (MayLead (held_blocks self.now) name.now)
             (IsNotHeld (held_blocks self.now) name.now) }
@@ -36,7 +36,7 @@ impl Blocks {
         self.contains(name)
     }
 
-    /// The names, whatever the root is.
+    /// Does what `reachable` does, whatever the root is.
     pub(crate) fn reach(&self, root: &Cid) -> Result<Vec<Cid>, AllocError>
         ensures { IfOk result
             (λ v. ListsReachable (stored (held_blocks self.now)) root.now v.items) }

@@ -1,4 +1,4 @@
-//! Reading the blocks of a file into a store.
+//! Reads the blocks of a CAR file into a store.
 
 ghost use Rattle.serde_ipld_dagcbor.specs.Inputs.{input_reading};
 ghost use Rattle.dagcbor_blocks.specs.Blocks.{held_blocks};
@@ -15,20 +15,21 @@ impl SectionSink for Blocks {
 
     ghost takes = { λ s old result new. PutsBytes s (held_blocks old) result (held_blocks new) };
 
-    /// As `put_block`.
+    /// Stores the block, as `put_block` does.
     fn take(&mut self, section: &Section<'_>) -> Result<(), PutBlockError> {
         self.put_block(&section.cid, section.block)
     }
 }
 
 impl Blocks {
-    /// Keeps the blocks of the file that the input has left (CAR, version 1 or 2), each under its
-    /// name, and answers its roots. The input is a slice, or a reader, as
-    /// `Input::Reader(IoReader::new(source))` for a source of std; one section of it is in memory
-    /// at a time, beside what is kept.
+    /// Stores the blocks of a CAR file of version 1 or 2, each under its name, and returns its
+    /// roots. The file is what is left of the input: a slice, or a reader, such as
+    /// `Input::Reader(IoReader::new(source))` for a source of std. One section of it is in memory
+    /// at a time, besides the stored blocks.
     ///
-    /// Each block must be one that `put_block` takes, of whatever codec. The first section that is not
-    /// so, or that is no section, ends the call: the blocks before it stay.
+    /// Each block must be one that `put_block` accepts, of any codec. The first section whose block
+    /// is refused ends the call, and so do bytes that are not a section. The blocks stored before
+    /// stay.
     pub fn read_car<'de, R: Read>(
         &mut self,
         input: &mut Input<'de, R>,

@@ -1,4 +1,4 @@
-//! The blocks that are held.
+//! A store of blocks in memory.
 
 ghost use Rattle.std.specs.List.{AllByRecursion};
 ghost use Rattle.dagcbor_blocks.specs.Sound.{IsSoundEntry};
@@ -12,6 +12,6 @@ use std::collections::BTreeMap;
 pub struct Blocks {
     pub(crate) alloc: Global,
     pub(crate) blocks: BTreeMap<Cid, Vec<u8>>,
-    // Each is sound under its name.
+    // Each block is sound under its name.
     ghost sound: { ∥ AllByRecursion IsSoundEntry blocks.entries ∥₁ },
 }

@@ -1,4 +1,4 @@
-//! Writing the held blocks as a file.
+//! Writes the stored blocks as a CAR file.
 
 ghost use Rattle.std.specs.Prelude.{Some, OnOk};
 ghost use Rattle.serde_ipld_dagcbor.specs.Written.{Writes};
@@ -12,9 +12,9 @@ use dagcbor_car::{push_header, push_section};
 use serde_ipld_dagcbor::{Cid, Write, WriteResult};
 
 impl Blocks {
-    /// Appends the file of these roots and of all held blocks (CAR, version 1), in the order of
-    /// their names. No root need be held. The header's spelling takes memory, whatever the writer
-    /// does; no message is answered.
+    /// Appends a CAR file of version 1 with these roots and all stored blocks, in the order of
+    /// their names. The roots need not be stored. Encoding the header allocates, whatever the
+    /// writer does. The error is never `Msg`.
     pub fn write_car<W: Write>(&self, roots: &[Cid], writer: &mut W) -> WriteResult<(), W>
         ensures written { Writes (Some (car_bytes (forms roots.now) (held_blocks self.now)))
             (W.written writer.old) (W.written writer.new) result }

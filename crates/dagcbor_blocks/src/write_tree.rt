@@ -1,4 +1,4 @@
-//! Writing the blocks that links lead to as a file.
+//! Writes the blocks that links lead to as a CAR file.
 
 ghost use Rattle.dagcbor_blocks.specs.Blocks.{held_blocks};
 ghost use Rattle.dagcbor_blocks.specs.Reaching.{WritesHeldTree};
@@ -9,9 +9,9 @@ use dagcbor_car::push_tree;
 use serde_ipld_dagcbor::{Cid, EncodeError, Write};
 
 impl Blocks {
-    /// Appends the file (CAR, version 1) whose one root this is, and whose sections are the held
-    /// blocks that links lead to from there, each once, in the order of `reachable`. A link that
-    /// leads to no held block is passed over, as there: `missing` lists them.
+    /// Appends a CAR file of version 1 with this one root. Its sections are the stored blocks that
+    /// links lead to from there, each once, in the order of `reachable`. A link to a block that is
+    /// not stored is skipped, as there; `missing` lists such links.
     pub fn write_tree<W: Write>(
         &self,
         root: &Cid,
@@ -30,7 +30,7 @@ impl Blocks {
             Ok(()) => Ok(()),
             Err(error) => match error {
                 EncodeError::Write(fault) => Err(WriteTreeError::Write(fault)),
-                // No message comes: what is sent has a spelling.
+                // The error is never `Msg`, because sections can always be encoded.
                 _ => Err(WriteTreeError::OutOfMemory),
             },
         }

@@ -8,7 +8,7 @@ use Rattle.ipld_tree.proofs.Cids.{varint_unique, form_0, form_1}
 use Rattle.ipld_tree.proofs.Unique.{split_at_length, spelling_unique}
 use Rattle.dagcbor_car.specs.Car.{counted, header_tree, header_bytes, Section, section_body, section_bytes, IsHeader, IsSection, IsCar}
 
--- ---- what is counted
+-- ---- a length and its bytes
 
 pub counted_unique : (b c x y : List ℕ) → length b < 2 ^ 64 → length c < 2 ^ 64 → counted b ++ x ≡ counted c ++ y → (b ≡ c) × (x ≡ y)
 counted_unique b c x y h l e =

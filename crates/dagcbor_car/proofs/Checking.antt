@@ -1,4 +1,4 @@
--- A file, section by section: which blocks it has, where its links lead, and what leads nowhere.
+-- A file, section by section: its blocks, its links, and the links that lead to no block.
 use Rattle.std.proofs.Common.{◌≡◌, inl, inr, ℕ, List, [], ◌∷◌, ◌++◌, refl, sym, ap, ◌∙◌, subst, ◌↔◌, ◌⊎◌, Result, Ok, Err, OnOk, IfOk, Vec, false, Global}
 use Rattle.std.specs.declared.convert.Infallible.{Infallible}
 use Rattle.dagcbor_core.specs.declared.error.DecodeError.{DecodeError}
@@ -54,7 +54,7 @@ after_header roots held start missing none empty h = record {
 
 -- ---- a section
 
--- what was linked is linked still
+-- a link stays a link, after one more section
 linked_still : (form : List ℕ) (roots : List (List ℕ)) (sections : List Section) (s : Section) → IsLinkedFrom form roots sections → IsLinkedFrom form roots (sections ++ s ∷ [])
 linked_still form roots sections s (link, n, inl m, w) = (link, n, inl m, w)
 linked_still form roots sections s (link, n, inr l, w) = (link, n, inr (l.0, l.1, push_among l.0 sections s (inl l.2), l.3, l.4, l.5), w)
@@ -78,11 +78,12 @@ held_more s sections old new v a h c = (there, back)
 names_more : (c : CidParts) (old new : HeldNames) → AddsName c old new → AreNames old → AreNames new
 names_more c old new a h q m = elim ((a.1 q).0 m) [ inl o ↦ h q o | inr e ↦ subst AreCidParts (sym e) a.0 ]
 
--- reached from a link of the section's block, where that is verified and of a codec that is read
+-- the form is reached from a link of the section's block, which is verified and of a codec that is
+-- read
 abbrev IsLinkOf : List ℕ → Section → Type 0
 IsLinkOf form s = (links : List (List ℕ)) × IsVerified s × HasLinks s.0.codec s.1 links × IsReached form links
 
--- what is linked was linked before, or is by this section
+-- a link was a link before, or is one of this section
 linked_by : (form : List ℕ) (roots : List (List ℕ)) (sections : List Section) (s : Section) → IsLinkedFrom form roots (sections ++ s ∷ []) → IsLinkedFrom form roots sections ⊎ IsLinkOf form s
 linked_by form roots sections s (link, n, inl m, w) = inl (link, n, inl m, w)
 linked_by form roots sections s (link, n, inr l, w) = elim (among_push l.0 sections s l.2) [
@@ -90,11 +91,11 @@ linked_by form roots sections s (link, n, inr l, w) = elim (among_push l.0 secti
   | inr e ↦ inr (l.1, subst IsVerified e l.3, subst (λ (p : Section). HasLinks p.0.codec p.1 l.1) e l.4, (link, n, l.5, w))
 ]
 
--- what names none of the blocks named none of the first
+-- a form that names no block of more sections names no block of the first ones
 none_before : (form : List ℕ) (sections : List Section) (s : Section) → NamesNoneInFile form (sections ++ s ∷ []) → NamesNoneInFile form sections
 none_before form sections s none = (none.0, λ k m. none.1 k (push_among k sections s (inl m)))
 
--- what names none of the first blocks, nor this one, names none
+-- a form that names no block of the first sections, nor of this one, names no block of all
 none_more : (form : List ℕ) (sections : List Section) (s : Section) → NamesNoneInFile form sections → (IsVerified s → cid_bytes s.0 ≡ form → ⊥) → NamesNoneInFile form (sections ++ s ∷ [])
 none_more form sections s none other = (
   none.0,
@@ -190,7 +191,7 @@ block_taken s old mid new v (a, cut) (same, (links, block, joins)) roots section
     names : AreNames mid.held
     names = names_more s.0 old.held mid.held a h.names
 
--- where no link comes from the section, the links stay
+-- if the section has no links, the links stay the same
 links_stay : (s : Section) (roots : List (List ℕ)) (sections : List Section) (missing : CidSet) → ((links : List (List ℕ)) → IsVerified s → HasLinks s.0.codec s.1 links → ⊥)
     → ((form : List ℕ) → Among form (forms (members missing)) ↔ (IsLinkedFrom form roots sections × NamesNoneInFile form (sections ++ s ∷ [])))
     → (form : List ℕ) → Among form (forms (members missing)) ↔ (IsLinkedFrom form roots (sections ++ s ∷ []) × NamesNoneInFile form (sections ++ s ∷ []))
@@ -229,7 +230,7 @@ unnamed_taken s k none roots sections h = record {
   cids = h.cids;
 }
 
--- what is known is of the two sets alone
+-- the state depends on the two sets only
 known_same : (k j : CarCheck) (roots : List (List ℕ)) (sections : List Section) → j.held ≡ k.held → j.missing ≡ k.missing → IsAfter k roots sections → IsAfter j roots sections
 known_same k j roots sections held missing h = record {
   held = subst (λ x. (c : CidParts) → IsHeldName c x ↔ IsHeldInFile c sections) (sym held) h.held;
@@ -281,7 +282,7 @@ unverified_noted s v k is verdict =
     let w = subst (IsVerdict s) is verdict in
     unnamed_taken s k (λ named. w (verified_testable s named))
 
--- ---- what leads nowhere
+-- ---- missing blocks
 
 pub missing_told : {E : Type 0} (r : Result (Vec CidParts Global) E) (k : CarCheck) (roots : List (List ℕ)) (sections : List Section) → IfOk r (λ v. IsStrictlySortedBy cid_cmp v.items) → IfOk r (λ v. v.items ≡ members k.missing)
     → IsAfter k roots sections → IfOk r (ListsMissingInFile roots sections)

@@ -1,4 +1,4 @@
--- What follows its length at the front of bytes, and a section there.
+-- A length and its bytes at the front, and a section there.
 use Rattle.std.proofs.Common.{◌≡◌, inl, inr, ℕ, List, [], ◌++◌, length, length-append, sym, ap, ◌∙◌, arith, append_assoc, append-nil}
 use Rattle.ipld_tree.specs.Cid.{varint}
 use Rattle.ipld_tree.specs.declared.cid_error.CidError.{CidError}
@@ -9,12 +9,12 @@ use Rattle.dagcbor_car.specs.declared.error.CarError.{CarError}
 use Rattle.dagcbor_car.specs.declared.error.CarError.TheVariants.{Truncated, InvalidLength, InvalidCid}
 use Rattle.dagcbor_car.proofs.Cars.{counted_unique}
 
--- ---- what is counted
+-- ---- a length and its bytes
 
 begins : (b inner rest : List ℕ) → SplitsCounted b inner rest → b ≡ varint (length inner) ++ (inner ++ rest)
 begins b inner rest h = h.1 ∙ append_assoc (varint (length inner)) inner rest
 
--- where the fault stands, nothing follows its length
+-- if there is this fault, no length with its bytes is at the front
 pub no_counted : {E : Type 0} (e : CarError E) (b inner rest : List ℕ) → CountFault e b → SplitsCounted b inner rest → ⊥
 no_counted Truncated b inner rest (inl cut) h =
     let whole : varint (length inner) ++ ((inner ++ rest) ++ cut.1) ≡ varint cut.0 ++ [] =
@@ -49,7 +49,7 @@ no_section_named E f b body rest h none = (λ s more k. by s more k, (body, rest
         let same = counted_unique body (section_body s) rest more h.0 k.0.1 (sym h.1 ∙ k.1) in
         none.0 s.0 s.1 (k.0.0, same.0)
 
--- the name and the block of what is counted
+-- the name and the block in the bytes of a section
 pub section_found : (b body rest block : List ℕ) (s : Section) → s.1 ≡ block → SplitsCounted b body rest → BeginsWithCid body s.0 block → SplitsSection b s rest
 section_found b body rest block s same h c =
     let whole : body ≡ section_body s = c.1 ∙ ap (λ x. section_body (s.0, x)) (sym same) in

@@ -1,4 +1,4 @@
--- A CID at the front of bytes, and why there is none.
+-- A CID at the front of bytes, and why it is not there.
 use Rattle.std.proofs.Common.{◌≡◌, inl, inr, ℕ, ◌+◌, ◌^◌, ◌<◌, ◌≤◌, List, [], ◌∷◌, ◌++◌, take, drop, length, length-append, refl, sym, ap, ◌∙◌, arith, append-nil, length-take-le, take-append-drop}
 use Rattle.ipld_tree.specs.Cid.{varint, CidParts, cid_parts, AreCidParts, cid_bytes}
 use Rattle.ipld_tree.specs.CidFault.{HasVarints, IsFault, IsVarintFault}
@@ -8,7 +8,7 @@ use Rattle.ipld_tree.proofs.CidFaults.{no_varint, one_varint_more, varint_fault,
 use Rattle.dagcbor_car.specs.Splits.{BeginsWithCid, BeginsNoCid}
 use Rattle.dagcbor_car.proofs.Cars.{front_0, front_1}
 
--- what a varint that was read says
+-- the varint of the number, and then the rest
 abbrev pub Read : List ℕ → ℕ → List ℕ → Type 0
 Read b n rest = (n < 2 ^ 64) × (b ≡ varint n ++ rest)
 
@@ -23,7 +23,7 @@ two_fields {s} {r} {t} j k h i = one_varint_more k t (one_field j h) i
 pub three_fields : {s r t d : List ℕ} (j k n : ℕ) → Read s j r → Read r k t → Read t n d → HasVarints (0x01 ∷ s) (j ∷ k ∷ n ∷ []) d
 three_fields {s} {r} {t} {d} j k n h i l = one_varint_more n d (two_fields j k h i) l
 
--- where a fault stands that is not of bytes after a CID, no CID stands first
+-- bytes with a fault, other than bytes after a CID, do not begin with a CID
 pub no_front : (e : CidError) (s : List ℕ) → (e ≡ TrailingBytes → ⊥) → IsFault e (0x01 ∷ s) → BeginsNoCid e (0x01 ∷ s)
 no_front e s other fault = (λ c rest h. by c rest h.0 h.1, fault)
   where
@@ -37,7 +37,7 @@ no_front e s other fault = (λ c rest h. by c rest h.0 h.1, fault)
         let trailing : IsFault TrailingBytes (0x01 ∷ s) = (c.codec, c.hash_code, length c.digest, c.digest ++ x ∷ rest, fields, (p.3, omega (arith, length-append c.digest (x ∷ rest)))) in
         other (one_fault e TrailingBytes (0x01 ∷ s) fault trailing)
 
--- where a varint is to stand and none does
+-- bytes do not begin with a CID, if a varint in it is missing or wrong
 pub no_varint_front : (e : CidError) (s fields rest : List ℕ) → HasVarints (0x01 ∷ s) fields rest → length fields ≤ 2 → IsVarintFault e rest → BeginsNoCid e (0x01 ∷ s)
 no_varint_front e s fields rest h few f = no_front e s (λ is. not_trailing e f is) (varint_fault e (0x01 ∷ s) fields rest h few f)
   where

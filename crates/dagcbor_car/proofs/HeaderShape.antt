@@ -21,7 +21,7 @@ links_count : (roots : List (List ℕ)) → item_count (items_of (map link roots
 links_count [] = refl
 links_count (r ∷ rs) = ap suc (links_count rs)
 
--- the links that were passed, and those that are still to come where so many stand there
+-- the links that were passed, and those to come, if there are `count` links
 pub record LinksPassed (b : List ℕ) (count to_come : ℕ) (now : List ℕ) : Type 0 where
   passed : (end : List ℕ) (more : List (List ℕ)) → AreFronts now (items_of (map link more)) end → (all : List (List ℕ)) × (length all + to_come ≡ count + length more) × AreFronts b (items_of (map link all)) end
   left : (end : List ℕ) (all : List (List ℕ)) → AreLinkFronts b count all end → (more : List (List ℕ)) × AreLinkFronts now to_come more end
@@ -97,7 +97,7 @@ is_the_header b front rest version is before behind k = (
   },
 )
 
--- what stands in a header
+-- the parts of a header
 header_parts : (b : List ℕ) (roots : List (List ℕ)) → IsSpelling b (header_tree roots) → (b ≡ before_roots ++ (spelling (link_list roots) ++ behind_roots)) × IsFront (spelling (link_list roots) ++ behind_roots) (link_list roots) behind_roots
 header_parts b roots h = (h.is ∙ header_spelled roots, record { well_formed = h.well_formed.1; spellable = h.spellable.1.1; is = refl })
 
@@ -136,7 +136,7 @@ list_judged now n b c (Some x) h k = links_there n b c (now x) h k
 pub split_joins : (b front rest : List ℕ) (n : ℕ) → IsSplitAt b n front rest → b ≡ front ++ rest
 split_joins b front rest n cut = sym (ap (λ x. x ++ rest) cut.1 ∙ ap (λ x. take n b ++ x) cut.2 ∙ take-append-drop n b)
 
--- want of memory is no fault of a length
+-- out of memory is never the fault of a length
 pub counts_no_memory : (e : CarError Infallible) (b : List ℕ) → CountFault e b → e ≢ OutOfMemory
 counts_no_memory OutOfMemory b h same = h
 counts_no_memory Truncated b h same = absurd (cc same)

@@ -1,4 +1,4 @@
--- The header of a file: its spelling, its links, and why bytes are none.
+-- The header of a file: its spelling, its links, and why bytes are not a header.
 use Rattle.std.proofs.Common.{◌≡◌, ℕ, ◌≤◌, List, [], ◌∷◌, ◌++◌, map, length, codes, pos, refl, sym, ap, ◌∙◌, subst, arith, Option, Some, option_map}
 use Rattle.ipld_tree.specs.Cid.{CidParts, cid_bytes}
 use Rattle.ipld_tree.specs.Tree.{Tree, integer, list, link, items_of, all_some, list_tree, entries_tree, any_need, items_need, links_of}
@@ -18,7 +18,7 @@ use Rattle.dagcbor_decode.proofs.Laws.{refused_no_block}
 use Rattle.dagcbor_car.proofs.Cars.{counted_unique, links_of_header}
 use Rattle.dagcbor_car.proofs.Counts.{no_counted}
 
--- ---- what is written of the roots
+-- ---- the encoded roots
 
 all_links : (cs : List CidParts) → all_some (map (λ c. Some (link (cid_bytes c))) cs) ≡ Some (map link (forms cs))
 all_links [] = refl
@@ -31,7 +31,7 @@ written_tree cs = entries_tree (field (codes "roots") (list_tree (map (λ c. Som
 pub written_header : (cs : List CidParts) → written_tree cs ≡ Some (header_tree (forms cs))
 written_header cs = ap (λ found. entries_tree (field (codes "roots") (option_map (λ ts. list (items_of ts)) found) ∷ field (codes "version") (Some (integer (pos 1))) ∷ [])) (all_links cs)
 
--- what was written is the header of the roots
+-- the encoded bytes are the header of the roots
 abbrev pub IsWritten : List CidParts → List ℕ → Type 0
 IsWritten cs v = IsSpelling v (header_tree (forms cs))
 

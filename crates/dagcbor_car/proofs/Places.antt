@@ -42,9 +42,9 @@ front_more b rest behind roots ss s h k = record {
 whole_car : (b rest : List ℕ) (roots : List (List ℕ)) (ss : List Section) → rest ≡ [] → IsCarFront b roots ss rest → IsCar b roots ss
 whole_car b rest roots ss none h = record { header = h.header; all = h.all; is = h.is ∙ ap (λ r. car_bytes roots ss ++ r) none ∙ append-nil (car_bytes roots ss) }
 
--- ---- what is no file
+-- ---- bytes that are not a file
 
--- after the same sections stand others
+-- after the same sections, the rest is other sections
 pub others_behind : (ss ts : List Section) (rest : List ℕ) → AllByRecursion IsSection ss → AllByRecursion IsSection ts → flat_map section_bytes ss ++ rest ≡ flat_map section_bytes ts
     → (more : List Section) × AllByRecursion IsSection more × (rest ≡ flat_map section_bytes more) × (ts ≡ ss ++ more)
 others_behind [] ts rest p q e = (ts, q, e, refl)
@@ -109,11 +109,11 @@ place_none e b rest roots ss extent h r others ts file =
     let same = holds_one b file.0 h.car 0 (wanting extent rest) file.1 h.inside in
     no_car_behind h.car (bytes_within extent rest) roots ss h.front (omega (arith, r.0, same.1)) r.1 others ts (subst (λ c. IsCar c others ts) same.0 file.2)
 
--- the front of the file, without what follows it
+-- the front of the file, without the bytes after it
 pub place_front : (b rest : List ℕ) (roots : List (List ℕ)) (ss : List Section) (extent : Option ℕ) → IsPlace b roots ss extent rest → IsFileFront b roots ss (wanting extent rest) (bytes_within extent rest)
 place_front b rest roots ss extent h = (h.car, h.inside, h.front)
 
--- at the end of a file nothing of it is left, nor wanting
+-- at the end of a file none of its bytes is left or missing
 pub ended : (extent more : Option ℕ) (mid now : Reading) (rest : List ℕ) → EndsThere extent mid more now → mid.left ≡ Some rest → (bytes_within extent rest ≡ []) × (wanting extent rest ≡ 0) × (now.left ≡ Some rest)
 ended None more mid now rest h l = (h.0.none_left rest l, refl, h.0.kept rest l)
 ended (Some n) more mid now rest h l = (ap (λ k. take k rest) h.0, omega (arith, h.0), ap (λ r. r.left) h.1 ∙ l)
@@ -127,7 +127,7 @@ place_whole b rest roots ss extent more mid now h end l =
     let e = ended extent more mid now rest end l in
     (h.car, subst (λ n. HoldsCar b h.car n) e.1 h.inside, whole_car h.car (bytes_within extent rest) roots ss e.0 h.front)
 
--- what follows the file
+-- the bytes after the file
 pub place_end : (b rest : List ℕ) (roots : List (List ℕ)) (ss : List Section) (extent more : Option ℕ) (mid now : Reading) → IsPlace b roots ss extent rest → EndsThere extent mid more now → mid.left ≡ Some rest → StandBehind b rest
 place_end b rest roots ss None more mid now h end l = inl (h.all refl, end.0.none_left rest l)
 place_end b rest roots ss (Some n) more mid now h end l = let k = h.behind n refl in inr (k.0, sym (k.1 ∙ ap (λ j. drop j rest) end.0))

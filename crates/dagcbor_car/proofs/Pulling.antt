@@ -1,4 +1,4 @@
--- What is taken of a file from a reader.
+-- Taking a file from a reader.
 use Rattle.std.proofs.Common.{◌≡◌, inl, inr, ℕ, ◌+◌, ◌*◌, ◌<◌, ◌≤◌, ◌^◌, false, List, [], ◌∷◌, ◌++◌, length, length-append, refl, sym, ap, ◌∙◌, subst, arith, append_assoc, append-nil, Option, Some, Result, Ok, Err, MatchResult, IfOk, IsErrAnd}
 use Rattle.dagcbor_heads.specs.Reading.{Reading}
 use Rattle.dagcbor_heads.specs.Fronts.{Takes}
@@ -41,7 +41,7 @@ refused_off stands stands' {x} {y} {front} {old} {mid} new e t f r = (r.0 ∙ t.
 
 -- ---- a length
 
--- so many bytes of a varint were taken, and more of it are to come
+-- n bytes of a varint were taken, and more of it are to come
 pub record IsInVarint (groups : List ℕ) (n : ℕ) (x : Option ℕ) (old : Reading) (y : Option ℕ) (now : Reading) : Type 0 where
   pub counted : length groups ≡ n
   pub takes : TakesOff x old groups y now
@@ -111,11 +111,11 @@ group_more {x} {y} {z} {old} {mid} {new} {groups} {more} {n} {byte} h t looked m
   most = omega (arith, h.most, most);
 }
 
--- a byte was taken after some, perhaps none
+-- looks at some bytes, perhaps none, and then at one more that was taken
 pub last_looked : {old mid new : Reading} → LooksAtSome 2 old mid → LooksAtTaken 2 0 mid new → LooksAtTaken 2 0 old new
 last_looked {old} {mid} {new} h k = let both = some_both h (some_taken k) in record { grows = both.grows; most = λ b l. let p = both.most b l in (p.0, p.1, p.2, p.3, omega (arith, p.4)); none_shown = k.none_shown }
 
--- what was looked at of a varint that ended
+-- looks at the bytes of a whole varint
 pub length_most : {x y : Option ℕ} {old mid : Reading} {groups : List ℕ} {n : ℕ} (new : Reading) (byte number : ℕ) (rest : List ℕ) → IsInVarint groups n x old y mid → LooksAtMost 2 mid new → number < 2 ^ 64 → groups ++ byte ∷ [] ≡ varint number ++ rest → LooksAtMost (2 * length (varint number)) old new
 length_most {x} {y} {old} {mid} {groups} {n} new byte number rest h most fits e =
     let end : groups ++ byte ∷ [] ≡ varint number = e ∙ ap (λ r. varint number ++ r) (ends_there groups byte number rest h.cut fits e) ∙ append-nil (varint number) in
@@ -127,7 +127,7 @@ no_more_groups {x} {y} {old} {now} {groups} h ten =
     let w = h.cut in
     omega (arith, ten, h.counted, w.3, ap length w.4, length-append groups w.1, varint_length w.0)
 
--- ---- what is counted
+-- ---- a length and its bytes
 
 pub counted_pulled : {C E : Type 0} (bytes : C → List ℕ) (r : Result C (CarError E)) (n : ℕ) (x y z : Option ℕ) (old mid new : Reading) → n < 2 ^ 64 → TakesOff x old (varint n) y mid
     → MatchResult r (λ c. (length (bytes c) ≡ n) × TakesOff y mid (bytes c) z new) (λ e. CarRefuses (IsShort n) (of_file y mid) e new)
@@ -135,7 +135,7 @@ pub counted_pulled : {C E : Type 0} (bytes : C → List ℕ) (r : Result C (CarE
 counted_pulled bytes (Ok c) n x y z old mid new fits t h = (omega (arith, h.0, fits), subst (λ m. TakesOff x old (varint m ++ bytes c) z new) (sym h.0) (off_both t h.1))
 counted_pulled bytes (Err e) n x y z old mid new fits t h = refused_off (IsShort n) CountFault new e t (λ rest s. subst (λ f. CountFault f (varint n ++ rest)) (sym s.0) (inr (n, rest, fits, s.1, refl))) h
 
--- what was looked at of a length and what it counts
+-- looks at a length and at the bytes that it counts
 pub counted_most : (bytes : List ℕ) (n : ℕ) (old mid new : Reading) → length bytes ≡ n → LooksAtMost (2 * length (varint n)) old mid → LooksAtMost (2 * n) mid new → LooksAtMost (2 * length (counted bytes)) old new
 counted_most bytes n old mid new is first most =
     let sized : varint n ≡ varint (length bytes) = ap varint (sym is) in
@@ -146,7 +146,7 @@ pub counted_sized : {C E : Type 0} (bytes : C → List ℕ) (r : Result C (CarEr
 counted_sized bytes (Ok c) n y z old mid new first h most = counted_most (bytes c) n old mid new h.0 first most
 counted_sized bytes (Err e) n y z old mid new first h most = tt
 
--- ---- want of memory
+-- ---- out of memory
 
 pub lacks_more : {U E : Type 0} (T : Type 0) (P Q : Type 0) (r : Result U (CarError E)) (e : CarError E) → IsErrAnd r (λ y. y ≡ e) → (P → Q) → LacksMemoryIf {T = T} P (Err e) → LacksMemoryIf Q r
 lacks_more T P Q (Ok v) e h f l = absurd h
@@ -160,13 +160,13 @@ varint_some : (n : ℕ) → 1 ≤ length (varint n)
 unfolding varint
 varint_some n = elim (cases_lt n 128) [ inl h ↦ omega (arith, ap length (one_group 9 n h)) | inr h ↦ omega (arith, ap length (more_groups 9 n h)) ]
 
--- after a length memory may be wanting for what it counts
+-- after a length, memory may run out for the bytes that it counts
 pub counted_lacks : {T E : Type 0} (r : Result T (CarError E)) (n : ℕ) {x y : Option ℕ} {old mid : Reading} → TakesOff x old (varint n) y mid → LacksMemoryIf (mid.lends ≡ false) r → LacksMemoryIf (SectionLacks (of_file x old)) r
 counted_lacks (Ok v) n {x} {y} {old} {mid} t l = tt
 counted_lacks (Err OutOfMemory) n {x} {y} {old} {mid} t l = (sym t.takes.same.lends ∙ l, λ e. let w = (off_within t).taken [] e in omega (arith, ap length w.1, length-append (varint n) w.0, varint_some n))
 counted_lacks (Err e) n {x} {y} {old} {mid} t l = tt
 
--- ---- what was looked at
+-- ---- looks at bytes
 
 -- a section that was looked at
 pub section_most : (s : Section) (body : List ℕ) (old new : Reading) → BeginsWithCid body s.0 s.1 → LooksAtMost (2 * length (counted body)) old new → LooksAtMost (2 * length (section_bytes s)) old new

@@ -1,4 +1,4 @@
--- What is appended of a file to a writer.
+-- Appending a file to a writer.
 use Rattle.std.proofs.Common.{◌≡◌, ℕ, List, length, Some, Result, subst, IsErrAnd}
 use Rattle.dagcbor_heads.specs.Written.{Written, WroteAll, Stops, Writes}
 use Rattle.dagcbor_core.specs.declared.error.EncodeError.{EncodeError}

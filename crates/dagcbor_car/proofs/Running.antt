@@ -1,4 +1,4 @@
--- What comes of runs of calls, against the bytes.
+-- Sequences of calls, against the bytes.
 use Rattle.std.proofs.Common.{◌≡◌, ◌⊎◌, inl, inr, ℕ, ◌<◌, Bool, true, false, List, [], ◌∷◌, ◌++◌, take, length, length-append, refl, sym, ap, ◌∙◌, subst, arith, Option, None, Some, option_map, Result, Ok, Err, MatchBool, flat_map}
 use Rattle.std.proofs.lemmas.Bool.{MatchBool-at_true, MatchBool-at_false}
 use Rattle.std.specs.List.{AllByRecursion}
@@ -23,12 +23,12 @@ use Rattle.dagcbor_car.proofs.Places.{no_file}
 
 -- ---- runs of `next`
 
--- what follows from both
+-- if both cases imply R, R holds
 either : (b : Bool) (P Q R : Type 0) → (P → R) → (Q → R) → MatchBool b P Q → R
 either true P Q R f g h = f h
 either false P Q R f g h = g h
 
--- of a stream that is done nothing comes
+-- a stream that is done gives nothing more
 nothing_more : {E : Type 0} (s : SectionStream) (items : List (Item E)) → s.done ≡ true → GivesItems s items → AreNone items
 nothing_more s [] d h = tt
 nothing_more s (item ∷ items) d h =
@@ -41,7 +41,7 @@ why (Read f) extent rest old new b l n = inl tt
 why OutOfMemory extent rest old new b l n = inl (n.memory.0, λ none. n.memory.1 (ap (option_map (bytes_within extent)) l ∙ ap Some none))
 why e extent rest old new b l n = inr (n.taken.1 b l)
 
--- what is left of a file that ends
+-- the bytes left of a file that ends
 none_left : (extent rest : Option ℕ) (old new : Reading) (b : List ℕ) → EndsThere extent old rest new → old.left ≡ Some b → (bytes_within extent b ≡ []) × (wanting extent b ≡ 0)
 none_left None rest old new b h l = (h.0.none_left b l, refl)
 none_left (Some n) rest old new b h l = (ap (λ k. take k b) h.0, omega (arith, h.0))
@@ -76,7 +76,7 @@ bytes_of sections = flat_map section_bytes sections
 some_bytes : (s : Section) (sections : List Section) → IsSection s → 0 < length (bytes_of (s ∷ sections))
 some_bytes s sections h = omega (arith, section_some s h, length-append (section_bytes s) (bytes_of sections))
 
--- where sections stand, no section is refused
+-- if sections are left, the next is not refused
 not_refused : {E : Type 0} (e : CarError E) (sections : List Section) → AllByRecursion IsSection sections → RefusesSection 0 e (bytes_of sections) → ⊥
 not_refused e [] all r = omega (arith, r.0)
 not_refused e (s ∷ sections) all r = r.1 s (bytes_of sections) (all.0, refl)

@@ -11,7 +11,7 @@ use Rattle.dagcbor_car.specs.Steps.{ExceedsExtent}
 use Rattle.dagcbor_car.specs.declared.error.CarError.{CarError}
 use Rattle.dagcbor_car.specs.declared.error.CarError.TheVariants.{Read, Truncated, OutOfMemory}
 
--- ---- what is left of the file
+-- ---- the bytes left of the file
 
 -- known bytes of the file are those of known bytes
 pub known : (x : Option ℕ) (o : Option (List ℕ)) (c : List ℕ) → option_map (bytes_within x) o ≡ Some c → (b : List ℕ) × (o ≡ Some b) × (c ≡ bytes_within x b)
@@ -35,7 +35,7 @@ wanting_behind (Some n) (Some m) front rest e =
     let h : n ≡ m + length front = cc e in
     omega (arith, h, length-append front rest)
 
--- ---- what is spent
+-- ---- spent bytes
 
 pub spends_none : (x : Option ℕ) → Spends x 0 x
 spends_none None = refl
@@ -51,7 +51,7 @@ off_none x r = record { takes = nothing_taken r; spends = spends_none x }
 pub off_both : {x y z : Option ℕ} {old mid new : Reading} {a b : List ℕ} → TakesOff x old a y mid → TakesOff y mid b z new → TakesOff x old (a ++ b) z new
 off_both {x} {y} {z} {old} {mid} {new} {a} {b} h k = record { takes = takes_both h.takes k.takes; spends = subst (λ n. Spends x n z) (sym (length-append a b)) (spends_both x y z (length a) (length b) h.spends k.spends) }
 
--- of the file the same was taken
+-- bytes taken within the file are taken off the reader, seen as having the file only
 pub off_within : {x y : Option ℕ} {old new : Reading} {front : List ℕ} → TakesOff x old front y new → Takes (of_file x old) front (of_file y new)
 off_within {x} {y} {old} {new} {front} h = record {
   taken = λ c l.
@@ -61,7 +61,7 @@ off_within {x} {y} {old} {new} {front} h = record {
   same = record { steps = h.takes.same.steps; budget = h.takes.same.budget; lends = h.takes.same.lends; faults = h.takes.same.faults; through = h.takes.same.through };
 }
 
--- ---- what was looked at
+-- ---- looks at bytes
 
 within_few : (x y : Option ℕ) (n : ℕ) (b : List ℕ) → Spends x n y → min n (length b) ≤ length (bytes_within x b)
 within_few None y n b e = omega arith
@@ -70,7 +70,7 @@ within_few (Some m) (Some k) n b e =
     let h : m ≡ k + n = cc e in
     omega (arith, h, length-take m b)
 
--- looks at what was taken are looks at the file
+-- looks at the bytes taken are looks at the file
 pub taken_within : {x y : Option ℕ} {old new : Reading} {front : List ℕ} → TakesOff x old front y new → LooksAtMost (2 * length front) old new → old.looked ≤ new.looked → new.shown ≡ [] → LooksAtTaken 2 0 (of_file x old) (of_file y new)
 taken_within {x} {y} {old} {new} {front} h most grows none = record {
   grows = grows;
@@ -97,13 +97,13 @@ left_within x y n {old} {new} now e most k same = record {
       omega (arith, k.most w.0 w.1, most, same, within_few x y n w.0 e, ap length w.2);
 }
 
--- ---- what is refused
+-- ---- refusals
 
 pub within_le : (x : Option ℕ) (b : List ℕ) → length (bytes_within x b) ≤ length b
 within_le None b = omega arith
 within_le (Some n) b = omega (arith, length-take n b)
 
--- what is short of the bytes left is short of those of the file
+-- fewer than n bytes left means fewer than n of the file
 pub short_within : {E : Type 0} (x : Option ℕ) (n : ℕ) (old new : Reading) (e : CarError E) → CarRefuses (IsShort n) old e new → CarRefuses (IsShort n) (of_file x old) e new
 short_within x n old new (Read f) r = r
 short_within x n old new OutOfMemory r = r

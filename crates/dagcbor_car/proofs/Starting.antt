@@ -30,7 +30,7 @@ use Rattle.dagcbor_car.proofs.Pulling.{zero_form, refused_behind}
 
 -- ---- which version
 
--- what follows its length there
+-- the pragma without its length
 abbrev pub version_2 : List ℕ
 version_2 = drop 1 pragma
 
@@ -59,7 +59,7 @@ other_version b inner rest h none v =
     let k = version_counted b v in
     none (ap (λ x. 0x0a ∷ x) (counted_unique inner version_2 rest (drop 11 b) h.0 k.0 (sym h.1 ∙ k.1)).0)
 
--- what begins the bytes, as far as they go, begins version 2
+-- bytes that begin like version 2, as far as they go, may be of version 2
 pub may_be : (b : List ℕ) (n : ℕ) → n ≡ min (length b) 11 → take n b ≡ take n pragma → MayBeVersion2 b
 may_be b n is same = elim (cases_lt 11 (length b)) [ inl long ↦ whole long | inr short ↦ begun short ]
   where
@@ -89,7 +89,7 @@ fields_of b long m = ap (λ x. pragma ++ x) (take_all (length b - 11) (drop 11 b
 
 -- ---- the fields
 
--- a number that stands whole is the same whatever follows
+-- a number that is whole stays the same, whatever follows
 pub number_on : (n : ℕ) (b rest : List ℕ) → n + 8 ≤ length b → number_behind n (b ++ rest) ≡ number_behind n b
 number_on n b rest h =
     ap (λ x. from_le_bytes w64 (take 8 x)) (drop-append-le n b rest (omega (arith, h)))
@@ -106,7 +106,7 @@ span_on b rest h = record {
 
 -- ---- the file of version 1 in the bytes
 
--- it is one
+-- bytes hold only one file of version 1
 pub holds_one : (b car more : List ℕ) (m n : ℕ) → HoldsCar b car m → HoldsCar b more n → (car ≡ more) × (m ≡ n)
 holds_one b car more m n (inl h) (inl k) = (h.1 ∙ sym k.1, h.2 ∙ sym k.2)
 holds_one b car more m n (inl h) (inr k) = absurd (h.0 k.0.version)
@@ -163,7 +163,7 @@ start_holds front rest roots x header (inr h) = inr (span_on front rest h.0, is,
     lacks : wanting x rest ≡ length_of (front ++ rest) - length (header_bytes roots ++ bytes_within x rest)
     lacks = wanting_behind (Some (length_of front)) x (header_bytes roots) rest h.1.3 ∙ fewer (length_of front) (header_bytes roots ++ rest) (header_bytes roots ++ bytes_within x rest) (sym (within_behind (Some (length_of front)) x (header_bytes roots) rest h.1.3)) ∙ ap (λ n. n - length (header_bytes roots ++ bytes_within x rest)) (sym long)
 
--- and after the file of version 1 of version 2 stands what follows that
+-- after the file of version 1 in one of version 2, the bytes are those after its length
 pub start_behind : (front rest : List ℕ) (roots : List (List ℕ)) (x : Option ℕ) → IsStartOfFile front roots x → (n : ℕ) → x ≡ Some n → HasSpan (front ++ rest) × (drop (begin_of (front ++ rest) + length_of (front ++ rest)) (front ++ rest) ≡ drop n rest)
 start_behind front rest roots x (inl h) n e = let clash = sym h.1 ∙ e in absurd (cc clash)
 start_behind front rest roots x (inr h) n e = (span_on front rest h.0, ap (λ k. drop k (front ++ rest)) sum ∙ drop-append-add front rest n)
@@ -181,7 +181,7 @@ pub start_all : (front rest : List ℕ) (roots : List (List ℕ)) (x : Option �
 start_all front rest roots x header (inl h) e v = header_version roots rest header (subst (λ f. IsVersion2 (f ++ rest)) h.0 v)
 start_all front rest roots x header (inr h) e v = let clash = h.1.3 ∙ ap (option_map (λ m. m + length (header_bytes roots))) e in absurd (cc clash)
 
--- where no span is told, none is there
+-- if the bytes do not say where the file of version 1 is, they hold none
 pub no_span : {E : Type 0} (e : CarError E) (b : List ℕ) → SpanFault e b → (car : List ℕ) → HoldsCar b car 0 → ⊥
 no_span e b f car (inl h) = h.0 (version e f)
   where
@@ -196,9 +196,9 @@ no_span e b f car (inr h) = by e f
     by InvalidOffset f = elim f.2 [ inl low ↦ omega (arith, low, h.0.begin) | inr high ↦ omega (arith, high, h.0.end) ]
     by _ f = f
 
--- ---- what is skipped
+-- ---- skipped bytes
 
--- some of so many bytes were taken, and the others are to come
+-- of `count` bytes some were taken, and `more` are to come
 pub record IsSkipping (count more : ℕ) (old now : Reading) : Type 0 where
   pub bytes : List ℕ
   pub counted : length bytes + more ≡ count
@@ -225,7 +225,7 @@ lent_looked {n} {bytes} {old} {new} long t looked none = record {
 
 -- ---- after the bytes that begin version 2
 
--- what is there of the file of version 1
+-- the bytes that are there of the file of version 1
 span_holds : (front rest : List ℕ) (n : ℕ) → HasSpan (pragma ++ front) → 11 + length front ≡ begin_of (pragma ++ front) → n ≡ length_of (pragma ++ front) → HoldsCar (pragma ++ (front ++ rest)) (take n rest) (n - length (take n rest))
 span_holds front rest n h begins long = inr (span_on (pragma ++ front) rest h, is, ap (λ m. m - length (take n rest)) (long ∙ sym same))
   where
@@ -337,7 +337,7 @@ enclosed_block n inner {y} {old} {mid} {new} h fits t has lent b l =
 
 -- ---- the start of a file
 
--- what is tested is not so
+-- if the test fails, the property does not hold
 pub is_other : (b : Bool) (P : Type 0) → IsTrue b ↔ P → b ≡ false → P → ⊥
 is_other b P test other p = let clash = sym (test.1 p) ∙ other in absurd (cc clash)
 
@@ -389,7 +389,7 @@ enclosed_lacks inner (Err OutOfMemory) {old} {mid} is t l = λ lent b k.
     (u.0, u.1, subst (λ x. HoldsCar x u.0 u.1) (ap (λ f. f ++ w.0) (sym (inner_pragma inner is)) ∙ sym w.1) u.2, u.3)
 enclosed_lacks inner (Err e) {old} {mid} is t l = tt
 
--- ---- what was looked at
+-- ---- looks at bytes
 
 pub left_wider : (x y : Option ℕ) (old now : Reading) → LooksAtLeft 2 0 (of_file x old) (of_file y now) → LooksAtLeft 2 0 old now
 left_wider x y old now h = record { grows = h.grows; most = λ b l. omega (arith, h.most (bytes_within x b) (ap (option_map (bytes_within x)) l), within_le x b) }

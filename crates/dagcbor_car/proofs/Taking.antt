@@ -17,7 +17,7 @@ each_more takes [] s extent rest more source mid behind old it new h t k =
 each_more takes (x ∷ ss) s extent rest more source mid behind old it new h t k =
     (h.0, h.1, h.2, h.3, h.4, each_more takes ss s h.0 rest more h.1 mid behind h.2 it new h.5 t k)
 
--- What holds before the first section, and goes on over each, holds after the last.
+-- A property that holds before the first section, and is kept by each, holds after the last.
 pub each_along : {S Stop : Type 0} (takes : SinkTakes S Stop) (Holds : List Section → Option ℕ → Reading → S → Type 0)
     → ((ss : List Section) (s : Section) (extent more : Option ℕ) (source behind : Reading) (old new : S) → Holds ss extent source old → TakesSectionBytes extent source s more behind → takes s old (Ok tt) new → Holds (ss ++ s ∷ []) more behind new)
     → (before ss : List Section) (extent rest : Option ℕ) (source mid : Reading) (old new : S) → Holds before extent source old → TakesEach takes extent source old ss rest mid new → Holds (before ++ ss) rest mid new

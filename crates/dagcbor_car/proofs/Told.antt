@@ -1,4 +1,4 @@
--- The verdicts that were told, and one more.
+-- The verdicts so far, and one more.
 use Rattle.std.proofs.Common.{◌≡◌, List, [], ◌∷◌, ◌++◌, refl, ap}
 use Rattle.dagcbor_car.specs.Car.{Section}
 use Rattle.ipld_links.specs.Verdicts.{IsVerdict}

@@ -86,7 +86,7 @@ section_stopped roots sections before these rest old mid now r e is h same stops
     let exit = Writes_exit (Some (car_bytes roots h.seen ++ flat_map section_bytes these)) (Some (flat_map section_bytes rest)) old now r e same front in
     subst (λ b. Writes (Some b) old now r) (joined roots h.seen these rest ∙ ap (λ ss. car_bytes roots ss) (sym (h.all ∙ ap (λ l. h.seen ++ l) is))) exit
 
--- ---- want of memory, at the exit of a `?`
+-- ---- out of memory, at the exit of a `?`
 
 pub header_unsent : {T E : Type 0} (U : Type 0) (takes_memory : Bool) (old new : Written) (r : Result T (EncodeError E)) (e : EncodeError E) → IsErrAnd r (λ d. d ≡ e) → UnsentWithoutMemory {T = U} takes_memory old (Err e) new → UnsentWithoutMemory takes_memory old r new
 header_unsent U takes_memory old new (Ok x) e same h = absurd same

@@ -1,4 +1,4 @@
--- What is found of a whole CAR file.
+-- The check of a whole CAR file.
 use Rattle.std.specs.Prelude.{◌≡◌, ◌≢◌, ◌↔◌, ◌⊎◌, ℕ, ◌+◌, List, [], ◌∷◌, ◌++◌, drop, Vec}
 use Rattle.std.specs.List.{AllByRecursion}
 use Rattle.std.specs.List.Sorted.{IsStrictlySortedBy}
@@ -14,9 +14,9 @@ use Rattle.ipld_links.specs.Held.{IsHeldName, AddsName, AreNames}
 use Rattle.ipld_links.specs.Within.{IsInlineForm, IsLinkWithin, AddsReached}
 use Rattle.dagcbor_car.specs.declared.check.CarCheck.{CarCheck}
 
--- ---- what leads nowhere
+-- ---- missing blocks
 
--- the name is that of a verified block
+-- the name is that of a verified block in the file
 abbrev pub IsHeldInFile : CidParts → List Section → Type 0
 IsHeldInFile c sections = (b : List ℕ) × Among (c, b) sections × IsVerified (c, b)
 
@@ -25,21 +25,21 @@ abbrev pub IsLinkIn : List ℕ → List Section → Type 0
 IsLinkIn form sections = (s : Section) × (links : List (List ℕ)) × Among s sections × IsVerified s
     × HasLinks s.0.codec s.1 links × Among form links
 
--- the binary form is that of a root, or of such a link
+-- the binary form is that of a root, or of a link in a verified block
 abbrev pub IsPlainlyLinked : List ℕ → List (List ℕ) → List Section → Type 0
 IsPlainlyLinked form roots sections = Among form roots ⊎ IsLinkIn form sections
 
--- it is that of one of these, or of a link within one
+-- the binary form is that of such a root or link, or of a link within one
 abbrev pub IsLinkedFrom : List ℕ → List (List ℕ) → List Section → Type 0
 IsLinkedFrom form roots sections = (link : List ℕ) × (n : ℕ) × IsPlainlyLinked link roots sections
     × IsLinkWithin n link form
 
--- it names no verified block, nor holds one itself
+-- the binary form is not that of a verified block's name, nor of a name that holds its block itself
 abbrev pub NamesNoneInFile : List ℕ → List Section → Type 0
 NamesNoneInFile form sections = ¬ IsInlineForm form
     × ((s : Section) → Among s sections → IsVerified s → cid_bytes s.0 ≢ form)
 
--- The roots and the links that name no verified block are listed, each once, in their order.
+-- The list has the roots and links that name no verified block, each once, in the order of CIDs.
 abbrev pub ListsMissingInFile : List (List ℕ) → List Section → Vec CidParts Global → Type 0
 ListsMissingInFile roots sections v = IsStrictlySortedBy cid_cmp v.items
     × ((form : List ℕ) → Among form (forms v.items)
@@ -47,7 +47,7 @@ ListsMissingInFile roots sections v = IsStrictlySortedBy cid_cmp v.items
 
 -- ---- section by section
 
--- what is known after these sections of a file of these roots
+-- the state of a check after these sections of a file with these roots
 pub record IsAfter (check : CarCheck) (roots : List (List ℕ)) (sections : List Section) : Type 0 where
   pub held : (c : CidParts) → IsHeldName c check.held ↔ IsHeldInFile c sections
   pub names : AreNames check.held
@@ -55,31 +55,31 @@ pub record IsAfter (check : CarCheck) (roots : List (List ℕ)) (sections : List
       ↔ (IsLinkedFrom form roots sections × NamesNoneInFile form sections)
   pub cids : AreCids check.missing
 
--- the name of a verified block joined those that are held, and is not missing
+-- the name of a verified block is now held, and no longer missing
 abbrev pub HoldsName : CidParts → CarCheck → CarCheck → Type 0
 HoldsName c old new = AddsName c old.held new.held × RemovesCid c old.missing new.missing
 
--- the names that are reached from the links of the block and are not held joined those that are
--- missing
+-- the missing names are the old ones, and those reached from the links of the block and not
+-- held
 abbrev pub FollowsLinks : ℕ → List ℕ → CarCheck → CarCheck → Type 0
 FollowsLinks codec b old new = (new.held ≡ old.held) × ((links : List (List ℕ)) × HasLinks codec b links
     × AddsReached links old.held old.missing new.missing)
 
--- what is known after a section, whatever stood before
+-- the state after one more section, whichever came before
 abbrev pub TakesSection : Section → CarCheck → CarCheck → Type 0
 TakesSection s old new = (roots : List (List ℕ)) (sections : List Section)
     → IsAfter old roots sections → IsAfter new roots (sections ++ s ∷ [])
 
 -- ---- the whole
 
--- the bytes begin with the file of these roots and sections, and the rest follows
+-- the bytes are the file of version 1 with these roots and sections, and then the rest
 pub record IsCarFront (b : List ℕ) (roots : List (List ℕ)) (sections : List Section) (rest : List ℕ) : Type 0 where
   pub header : IsHeader roots
   pub all : AllByRecursion IsSection sections
   pub is : b ≡ car_bytes roots sections ++ rest
 
--- of a file of either version, of which so many bytes are wanting, the header and these sections stand
--- there, and then the rest
+-- a file of either version, of which n bytes are missing, has
+-- the header, these sections, and then the rest
 abbrev pub IsFileFront : List ℕ → List (List ℕ) → List Section → ℕ → List ℕ → Type 0
 IsFileFront b roots sections n rest = (car : List ℕ) × HoldsCar b car n
     × IsCarFront car roots sections rest
@@ -88,7 +88,7 @@ IsFileFront b roots sections n rest = (car : List ℕ) × HoldsCar b car n
 abbrev pub IsNoFile : List ℕ → Type 0
 IsNoFile b = (roots : List (List ℕ)) (sections : List Section) → ¬ IsFile b roots sections
 
--- these bytes of the whole stand after the file: none, or of version 2 all that do
+-- the rest are the bytes after the file: none in version 1; in version 2 all after its span
 abbrev pub StandBehind : List ℕ → List ℕ → Type 0
 StandBehind b rest = ((¬ IsVersion2 b) × (rest ≡ []))
     ⊎ (HasSpan b × (rest ≡ drop (begin_of b + length_of b) b))

@@ -1,4 +1,4 @@
--- The sections of a file, one by one, for whatever takes them.
+-- The sections of a CAR file, passed one by one to a sink.
 use Rattle.std.specs.Prelude.{◌≡◌, ◌⊎◌, ℕ, ◌-◌, ◌^◌, List, [], ◌∷◌, length, Bool, Option, Result, Ok, Err, MatchBool, MatchResult}
 use Rattle.dagcbor_heads.specs.Reading.{Reading}
 use Rattle.dagcbor_car.specs.Car.{Section}
@@ -9,11 +9,11 @@ use Rattle.dagcbor_car.specs.declared.error.CarError.TheVariants.{OutOfMemory}
 use Rattle.dagcbor_car.specs.declared.each.ReadCarError.{ReadCarError}
 use Rattle.dagcbor_car.specs.declared.each.ReadCarError.TheVariants as stop
 
--- what taking a section does to a sink, and answers
+-- the relation of a section, a sink before, the answer of `take`, and the sink after
 abbrev pub SinkTakes : Type 0 → Type 0 → Type 1
 SinkTakes S Stop = Section → S → Result (Unit {0}) Stop → S → Type 0
 
--- the sections stood one after the other, and the sink took each
+-- these sections came one after another, and the sink took each
 abbrev pub TakesEach : {S Stop : Type 0} → SinkTakes S Stop → Option ℕ → Reading → S → List Section
     → Option ℕ → Reading → S → Type 0
 TakesEach takes extent source old [] more behind new =
@@ -22,13 +22,13 @@ TakesEach {S} takes extent source old (s ∷ ss) more behind new = (rest : Optio
     × (it : S) × TakesSectionBytes extent source s rest mid × takes s old (Ok tt) it
     × TakesEach takes rest mid it ss more behind new
 
--- no section stands next, though bytes do, or are wanting; memory is wanted only for one
+-- bytes are left or missing, and no section begins; memory runs out only as `SectionLacks` says
 abbrev pub NoneNext : {E : Type 0} → Option ℕ → Reading → CarError E → Reading → Type 0
 NoneNext extent source e behind = CarRefuses (RefusesNext extent) source e behind
     × LacksMemoryIf {T = Unit {0}} (SectionLacks (of_file extent source)) (Err e)
 
--- why no section more is taken, after so many: none stands next; or it stands there, and the sink
--- refused it
+-- why no section is taken after `count` others: none
+-- begins next, or the sink refused the one that does
 abbrev pub StopsEach : {S Stop E : Type 0} → SinkTakes S Stop → ℕ → Option ℕ → Reading → S
     → ReadCarError E Stop → Option ℕ → Reading → S → Type 0
 StopsEach takes count extent source old (stop.Header e) more behind new = ⊥
@@ -37,7 +37,7 @@ StopsEach takes count extent source old (stop.Section n e) more behind new =
 StopsEach takes count extent source old (stop.Block n name why) more behind new = (s : Section)
     × (n ≡ count) × TakesSectionBytes extent source s more behind × (name ≡ s.0) × takes s old (Err why) new
 
--- the next section is taken; or it is the end; or none is taken
+-- the next section is taken; or the file ends; or no section is taken
 abbrev pub TakesNext : {S Stop E : Type 0} → SinkTakes S Stop → ℕ → Option ℕ → Reading → S
     → Result Bool (ReadCarError E Stop) → Option ℕ → Reading → S → Type 0
 TakesNext takes count extent source old result more behind new = MatchResult result
@@ -46,12 +46,12 @@ TakesNext takes count extent source old result more behind new = MatchResult res
     (EndsThere extent source more behind × (new ≡ old)))
     (λ e. StopsEach takes count extent source old e more behind new)
 
--- the call gives up after so many sections
+-- the call gives up after 2 ^ 64 - 1 sections
 abbrev pub AreTooMany : {E Stop : Type 0} → List Section → ReadCarError E Stop → Type 0
 AreTooMany sections e = (e ≡ stop.Section (length sections) OutOfMemory) × (length sections ≡ 2 ^ 64 - 1)
 
--- All sections up to the end are taken, so many; or some, after which there is a cause, which tells
--- how many.
+-- All sections up to the end were taken, and counted; or some were taken,
+-- and the error says why no more, and how many.
 abbrev pub RunsEach : {S Stop E : Type 0} → SinkTakes S Stop → Option ℕ → Reading → S
     → Result ℕ (ReadCarError E Stop) → Option ℕ → Reading → S → Type 0
 RunsEach {S} takes extent source old result more behind new = MatchResult result

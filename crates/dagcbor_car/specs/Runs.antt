@@ -1,4 +1,4 @@
--- What comes of runs of calls: what `next` gives of a file, and what `write` makes of sections.
+-- Sequences of calls: the items that `next` returns, and the file that `write` makes.
 use Rattle.std.specs.Prelude.{◌≡◌, ◌≢◌, ◌⊎◌, ℕ, Bool, false, List, [], ◌∷◌, ⊤, Option, None, Some, Result, Ok, Err, MatchResult, Vec, flat_map}
 use Rattle.std.specs.List.{AllByRecursion}
 use Rattle.std.specs.declared.alloc.Global.{Global}
@@ -16,32 +16,32 @@ use Rattle.dagcbor_car.specs.declared.error.CarError.{CarError}
 use Rattle.dagcbor_car.specs.declared.error.CarError.TheVariants.{Read, OutOfMemory}
 use Rattle.dagcbor_car.specs.declared.reader.CarReader.{CarReader}
 
--- ---- what `next` gives
+-- ---- the items of `next`
 
--- what a call gives
+-- the answer of one call of `next`
 abbrev pub Item : Type 0 → Type 0
 Item E = Option (Result Section (CarError E))
 
--- calls of `next`, one after another, gave these items
+-- calls of `next`, one after another, returned these items
 abbrev pub GivesItems : {E : Type 0} → SectionStream → List (Item E) → Type 0
 GivesItems old [] = ⊤
 GivesItems old (item ∷ items) = (new : SectionStream) × GivesSection old item new
     × GivesItems new items
 
--- none of the calls gave anything
+-- each of the calls returned `None`
 abbrev pub AreNone : {E : Type 0} → List (Item E) → Type 0
 AreNone items = AllByRecursion (λ item. item ≡ None) items
 
--- an error that says nothing of the bytes: a fault of the source; or want of memory, which does not
--- come of a source that lends, nor where no bytes are left
+-- an error that says nothing about the bytes: a fault of the source; or out of memory, which needs
+-- a source that does not lend, and bytes left
 abbrev pub GivesUpOnFile : {E : Type 0} → Bool → List ℕ → CarError E → Type 0
 GivesUpOnFile lends b (Read e) = ⊤
 GivesUpOnFile lends b OutOfMemory = (lends ≡ false) × (b ≢ [])
 GivesUpOnFile lends b _ = ⊥
 
--- The sections that stand one after the other at the front of the bytes come one by one. Then
--- comes the end, where no bytes are left, nor wanting; or one error: its cause stands there, and no
--- section, or it says nothing of the bytes. Nothing follows that.
+-- The items are the sections at the front of the bytes, in order. Then comes the end, if no bytes
+-- are left or missing; or one error: no section begins there, for its cause, or it says nothing
+-- about the bytes. Then only `None` comes.
 abbrev pub AreItemsOf : {E : Type 0} → Bool → ℕ → List ℕ → List (Item E) → Type 0
 AreItemsOf lends n b [] = ⊤
 AreItemsOf lends n b (Some (Ok s) ∷ items) = (rest : List ℕ) × SplitsSection b s rest
@@ -50,16 +50,16 @@ AreItemsOf lends n b (Some (Err e) ∷ items) = (GivesUpOnFile lends b e ⊎ Ref
     × AreNone items
 AreItemsOf lends n b (None ∷ items) = (b ≡ []) × (n ≡ 0) × AreNone items
 
--- However often `next` is called, over known bytes, it gives the items of those that are of the file.
+-- However often `next` is called, over known bytes, it returns the items of the file's bytes.
 abbrev pub RunsAreExact : Type 0 → Type 0
 RunsAreExact E = (s : SectionStream) (b : List ℕ) (items : List (Item E)) → s.done ≡ false
     → s.source.left ≡ Some b → GivesItems s items
     → AreItemsOf s.source.lends (wanting s.extent b) (bytes_within s.extent b) items
 
--- ---- what is read of a file
+-- ---- reading a file
 
--- These sections come one by one, and then the end; or some of them, and then an error that says
--- nothing of the bytes. Nothing follows that.
+-- The items are these sections, and then the end; or some of these sections, and then an error that
+-- says nothing about the bytes. Then only `None` comes.
 abbrev pub AreSections : {E : Type 0} → Bool → List (Item E) → List Section → Type 0
 AreSections lends [] sections = ⊤
 AreSections lends (Some (Ok s) ∷ items) sections = (more : List Section) × (sections ≡ s ∷ more)
@@ -68,14 +68,14 @@ AreSections lends (Some (Err e) ∷ items) sections =
     GivesUpOnFile lends (flat_map section_bytes sections) e × AreNone items
 AreSections lends (None ∷ items) sections = (sections ≡ []) × AreNone items
 
--- an error of the header that says nothing of the bytes: a fault of the source, or want of memory
+-- an error of the header that says nothing about the bytes: a fault of the source, or out of memory
 abbrev pub DoesNotBegin : {E : Type 0} → CarError E → Type 0
 DoesNotBegin (Read e) = ⊤
 DoesNotBegin OutOfMemory = ⊤
 DoesNotBegin _ = ⊥
 
--- The file of these roots and sections is read as these roots and sections, faults and want of
--- memory aside.
+-- The file of these roots and sections is read back as
+-- them, unless the source faults or memory runs out.
 abbrev pub CarsReadBack : {R : Type 0} → Type 0 → (R → Reading) → Type 0
 CarsReadBack {R} E reading = (b : List ℕ) (roots : List (List ℕ)) (sections : List Section)
     (old : Reading) (result : Result (Vec CidParts Global × CarReader R) (CarError E))
@@ -85,9 +85,9 @@ CarsReadBack {R} E reading = (b : List ℕ) (roots : List (List ℕ)) (sections 
     → GivesItems (section_stream reading p.1) items → AreSections old.lends items sections))
     DoesNotBegin
 
--- ---- what `write` makes
+-- ---- the file of `write`
 
--- these sections were written one after another, and none was refused
+-- these sections were written one after another, and each was accepted
 abbrev pub WritesSections : {W : Type 0} → Type 0 → (W → Written) → Bool → WriterState W
     → List Section → WriterState W → Type 0
 WritesSections E written takes_memory old [] new = new ≡ old
@@ -95,8 +95,8 @@ WritesSections {W} E written takes_memory old (s ∷ sections) new = (mid : Writ
     × WritesSection {T = Unit {0}} {E = E} written takes_memory s old (Ok tt) mid
     × WritesSections E written takes_memory mid sections new
 
--- After the header and these sections the writer has the file of these roots and sections after
--- what it had.
+-- After the header and these sections, the writer has the file with these
+-- roots and sections, after what it had before.
 abbrev pub CarsAreWritten : {W : Type 0} → Type 0 → (W → Written) → Bool → Type 0
 CarsAreWritten {W} E written takes_memory = (old : W) (begun new : WriterState W)
     (roots : List (List ℕ)) (sections : List Section) → BeginsCar {E = E} written old roots (Ok begun)

@@ -1,4 +1,4 @@
--- What is taken of a file that comes from a reader, and why it is not.
+-- Reading a CAR file from a reader, and why it is refused.
 use Rattle.std.specs.Prelude.{◌≡◌, ◌≢◌, ◌⊎◌, ℕ, ◌+◌, ◌*◌, ◌<◌, List, [], ◌++◌, length, Bool, true, false, ⊤, Option, None, Some, Result, Ok, Err, is_err, Vec, MatchBool, MatchOption, MatchResult}
 use Rattle.std.specs.declared.alloc.Global.{Global}
 use Rattle.dagcbor_heads.specs.Reading.{Reading}
@@ -19,8 +19,8 @@ use Rattle.dagcbor_car.specs.declared.reader.CarReader.{CarReader}
 
 -- ---- refusals
 
--- A refusal is a fault of the source, which was counted; want of memory; or else one whose cause
--- stands at the front of the bytes left.
+-- A refusal is a fault of the source, which was counted; or out of
+-- memory; or its cause holds of the bytes left.
 abbrev pub CarRefuses : {E : Type 0} → (CarError E → List ℕ → Type 0) → Reading → CarError E → Reading
     → Type 0
 CarRefuses stands old (Read e) new = old.faults < new.faults
@@ -28,19 +28,19 @@ CarRefuses stands old OutOfMemory new = new.faults ≡ old.faults
 CarRefuses stands old e new = (new.faults ≡ old.faults)
     × ((b : List ℕ) → old.left ≡ Some b → stands e b)
 
--- want of memory is answered only where this holds
+-- memory runs out only if `lacks` holds
 abbrev pub LacksMemoryIf : {T E : Type 0} → Type 0 → Result T (CarError E) → Type 0
 LacksMemoryIf lacks (Err OutOfMemory) = lacks
 LacksMemoryIf lacks (Err e) = ⊤
 LacksMemoryIf lacks (Ok v) = ⊤
 
--- where memory may be wanting for the header of a file of either version: over a slice only after
--- a block, which stands whole
+-- when memory may run out for the header of a file of either
+-- version: over a slice only after a whole block
 abbrev pub FileLacks : Reading → Type 0
 FileLacks old = old.lends ≡ true → (b : List ℕ) → old.left ≡ Some b
     → (car : List ℕ) × (n : ℕ) × HoldsCar b car n × CountsBlock car
 
--- where memory may be wanting for a section: not over a slice, nor at the end
+-- when memory may run out for a section: not over a slice, nor at the end
 abbrev pub SectionLacks : Reading → Type 0
 SectionLacks old = (old.lends ≡ false) × (old.left ≢ Some [])
 
@@ -48,43 +48,43 @@ SectionLacks old = (old.lends ≡ false) × (old.left ≢ Some [])
 abbrev pub IsShort : {E : Type 0} → ℕ → CarError E → List ℕ → Type 0
 IsShort n e b = (e ≡ Truncated) × (length b < n)
 
--- the refusal of a call that takes so many bytes, as one of a file
+-- the refusal of a call that takes bytes, as a `CarError`
 abbrev pub car_error : {E : Type 0} → DecodeError E → CarError E
 car_error (unread.Read e) = Read e
 car_error unread.OutOfMemory = OutOfMemory
 car_error _ = Truncated
 
--- no header stands first, for this cause
+-- the bytes do not begin with a header, for this cause
 abbrev pub RefusesHeader : {E : Type 0} → CarError E → List ℕ → Type 0
 RefusesHeader e b = BeginsNoHeader b × HeaderFault e b
 
--- no file begins, for this cause: bytes of version 2 do not tell where the file of version 1 stands, or
--- no header stands first there
+-- no file begins, for this cause: version 2 does not say where the file of version 1 is, or that
+-- file does not begin with a header
 abbrev pub RefusesStart : {E : Type 0} → CarError E → List ℕ → Type 0
 RefusesStart e b = SpanFault e b
     ⊎ ((car : List ℕ) × (n : ℕ) × HoldsCar b car n × RefusesHeader e car)
 
--- some bytes are there, or are wanting, and no section stands first, for this cause
+-- some bytes are left, or n are missing, and no section begins, for this cause
 abbrev pub RefusesSection : {E : Type 0} → ℕ → CarError E → List ℕ → Type 0
 RefusesSection n e b = (0 < length b + n) × BeginsNoSection b × SectionFault e b
 
--- of what is left of a file some bytes are there, or are wanting, and no section stands first, for
--- this cause
+-- some bytes of the file are left or missing, and they do not begin with a section, for this
+-- cause
 abbrev pub RefusesNext : {E : Type 0} → Option ℕ → CarError E → List ℕ → Type 0
 RefusesNext extent e b = RefusesSection (wanting extent b) e (bytes_within extent b)
 
--- ---- what is taken
+-- ---- taking a file
 
--- the bytes begin a file of these roots, and so much of it is left: they are the header; or, of
--- version 2, its header, any bytes up to where the file of version 1 begins, and the header of that
+-- the bytes begin a file with these roots, and this much of it is left: they are the header; or
+-- those of version 2, any bytes up to where the file of version 1 begins, and the header of that
 abbrev pub IsStartOfFile : List ℕ → List (List ℕ) → Option ℕ → Type 0
 IsStartOfFile front roots extent = ((front ≡ header_bytes roots) × (extent ≡ None))
     ⊎ (HasSpan front × ((before : List ℕ) × (length before ≡ begin_of front)
     × (front ≡ before ++ header_bytes roots)
     × Spends (Some (length_of front)) (length (header_bytes roots)) extent))
 
--- the start of a file of these roots stood first, and was taken, and so much of the file is left; each
--- byte was looked at twice, and none after them
+-- the start of a file with these roots was taken, and this much of the file is left; each byte was
+-- looked at at most twice, and none after them
 pub record TakesStart (old : Reading) (roots : List (List ℕ)) (extent : Option ℕ) (new : Reading) : Type 0 where
   pub front : List ℕ
   pub header : IsHeader roots
@@ -93,22 +93,22 @@ pub record TakesStart (old : Reading) (roots : List (List ℕ)) (extent : Option
   pub looked : LooksAtMost (2 * length front) old new
   pub none_shown : new.shown ≡ []
 
--- The start of a file is taken, or none begins.
+-- The start of a file was taken, or no file begins.
 abbrev pub PullsStart : {E : Type 0} → Reading
     → Result (Vec CidParts Global × Option ℕ) (CarError E) → Reading → Type 0
 PullsStart old result new = MatchResult result
     (λ p. TakesStart old (forms p.0.items) p.1 new)
     (λ e. CarRefuses RefusesStart old e new)
 
--- how often bytes are looked at by a call that refuses: each that was left twice
+-- how often a call that refuses looks at bytes: at most twice at each that was left
 abbrev pub LooksTwice : {T E : Type 0} → Reading → Result T E → Reading → Type 0
 LooksTwice old result new = MatchResult result (λ _. ⊤) (λ _. LooksAtLeft 2 0 old new)
 
--- this section stood first, within the file, and was taken
+-- this section was at the front, within the file, and was taken
 abbrev pub TakesSectionBytes : Option ℕ → Reading → Section → Option ℕ → Reading → Type 0
 TakesSectionBytes extent old s rest new = IsSection s × TakesOff extent old (section_bytes s) rest new
 
--- The end of the file is found, or the section at the front is taken, or none stands there.
+-- The file ends; or the section at the front was taken; or no section begins.
 abbrev pub PullsSection : {E : Type 0} → Option ℕ → Reading → Result (Option Section) (CarError E)
     → Option ℕ → Reading → Type 0
 PullsSection extent old result rest new = MatchResult result
@@ -116,8 +116,8 @@ PullsSection extent old result rest new = MatchResult result
     (λ s. TakesSectionBytes extent old s rest new))
     (λ e. CarRefuses (RefusesNext extent) old e new)
 
--- how often bytes of the file are looked at: each of the section's twice, the first once more, and
--- none after it, of which none is shown
+-- how often a call looks at the bytes of the file: at most twice at each of the section, and once
+-- more at the first; at none after it, and none is peeked
 abbrev pub LooksAtSection : {E : Type 0} → Reading → Result (Option Section) (CarError E) → Reading
     → Type 0
 LooksAtSection old result new = MatchResult result
@@ -129,14 +129,14 @@ LooksAtSection old result new = MatchResult result
 
 -- what contracts see of a `CarReader`
 pub record SectionStream : Type 0 where
-  -- what they are read from
+  -- the reader that they come from
   pub source : Reading
   -- how much of the file is left there
   pub extent : Option ℕ
-  -- whether an error, or the end, was met
+  -- whether an error, or the end, came
   pub done : Bool
 
--- a `CarReader` over a reader whose reading is known
+-- what contracts see of a `CarReader`, by its reader's reading
 abbrev pub section_stream : {R : Type 0} → (R → Reading) → CarReader R → SectionStream
 section_stream reading s = record {
   source = input_reading reading s.input;
@@ -144,25 +144,25 @@ section_stream reading s = record {
   done = s.done;
 }
 
--- what `next` gives is what was taken, and the last but after a section
+-- an answer of `next` as one of `pull_section`
 abbrev pub as_pulled : {S E : Type 0} → Option (Result S E) → Result (Option S) E
 as_pulled None = Ok None
 as_pulled (Some (Ok s)) = Ok (Some s)
 as_pulled (Some (Err e)) = Err e
 
--- whether nothing follows what was given
+-- whether nothing follows this answer
 abbrev pub is_last : {S E : Type 0} → Option (Result S E) → Bool
 is_last None = true
 is_last (Some r) = is_err r
 
--- what is taken next, when memory is wanted, and how often bytes of the file are looked at
+-- a section is taken, or not; when memory runs out; and how often the file's bytes are looked at
 pub record GivesNextSection {E : Type 0} (extent : Option ℕ) (old : Reading)
     (result : Result (Option Section) (CarError E)) (rest : Option ℕ) (new : Reading) : Type 0 where
   pub taken : PullsSection extent old result rest new
   pub memory : LacksMemoryIf (SectionLacks (of_file extent old)) result
   pub looked : LooksAtSection (of_file extent old) result (of_file rest new)
 
--- What `next` does: nothing follows the end, or after an error; else what is taken next.
+-- What `next` does: it returns `None` after the end or an error; else it reads the next section.
 abbrev pub GivesSection : {E : Type 0} → SectionStream → Option (Result Section (CarError E))
     → SectionStream → Type 0
 GivesSection old item new = MatchBool old.done
@@ -170,13 +170,13 @@ GivesSection old item new = MatchBool old.done
     ((new.done ≡ is_last item)
     × GivesNextSection old.extent old.source (as_pulled item) new.extent new.source)
 
--- no file begins, which a fault of the source and want of memory excuse
+-- no file begins, unless the source faulted or memory ran out
 abbrev pub NotBegun : {E : Type 0} → Reading → CarError E → Type 0
 NotBegun old (Read e) = ⊤
 NotBegun old OutOfMemory = FileLacks old
 NotBegun old e = (b : List ℕ) → old.left ≡ Some b → RefusesStart e b
 
--- The start of a file was taken, and the sections after it are to come; or nothing was begun.
+-- The start of a file was taken, and its sections come next; or nothing was begun.
 abbrev pub Begins : {R E : Type 0} → (R → Reading) → Reading
     → Result (Vec CidParts Global × CarReader R) (CarError E) → Type 0
 Begins reading old result = MatchResult result

@@ -1,4 +1,4 @@
-//! A file, section by section: the verdicts, and the links that lead to no block of it.
+//! Checks a CAR file section by section: the verdicts, and the links that lead to no block in it.
 
 ghost use Rattle.std.specs.Prelude.{◌≡◌, ◌≢◌, ◌⊎◌, [], IfOk, OnOk, OnErr, List, ℕ, true, false, is_err};
 ghost use Rattle.dagcbor_items.specs.Walks.{forms};
@@ -13,11 +13,11 @@ use ipld_links::{CidSet, HeldNames, Verdict, verify};
 use ipld_tree::Cid;
 use std::alloc::{AllocError, Global};
 
-/// What is known of a file after some of its sections: which blocks it has, and which of its roots
-/// and links lead to none of them so far. A name by the identity holds its block itself: it is never
-/// missing, and the links in that block are followed, however deep such names stand in one another.
-/// Each digest is shorter than the block that it stands in, so this ends. After a refusal of `take`
-/// nothing is known, and `take` and `missing` are refused.
+/// The state of a check after some of a file's sections: which blocks the file has, and which roots
+/// and links lead to no block so far. A name by the identity holds its block itself: it is never
+/// missing, and the links in that block are followed, however deeply such names are nested. Each
+/// digest is shorter than the block that it is in, so this ends. After `take` was refused, `take`
+/// and `missing` are refused.
 #[derive(Drop)]
 pub struct CarCheck {
     held: HeldNames,
@@ -26,7 +26,7 @@ pub struct CarCheck {
 }
 
 impl CarCheck {
-    /// After the header, with these roots.
+    /// Begins the check, after a header with these roots.
     pub fn new(alloc: Global, roots: &[Cid]) -> Result<CarCheck, AllocError>
         ensures after { IfOk result (λ check. IsAfter check (forms roots.now) []) }
         ensures sound { IfOk result (λ check. check.failed ≡ false) }
@@ -42,7 +42,7 @@ impl CarCheck {
         })
     }
 
-    /// Takes the next section, and answers the verdict on it.
+    /// Takes the next section, and returns the verdict on it.
     pub fn take(&mut self, section: &Section<'_>) -> Result<Verdict, AllocError>
         ensures verdict { IfOk result (IsVerdict (section.now.cid, section.now.block.now)) }
         ensures after { OnOk result
@@ -62,7 +62,7 @@ impl CarCheck {
         Ok(verdict)
     }
 
-    /// Notes what the verdict on the section says.
+    /// Records the section, according to its verdict.
     fn note(&mut self, section: &Section<'_>, verdict: &Verdict) -> Result<(), AllocError>
         requires { IsVerdict (section.now.cid, section.now.block.now) verdict.now }
         ensures after { OnOk result
@@ -82,7 +82,7 @@ impl CarCheck {
         }
     }
 
-    /// Notes a verified block, and its links.
+    /// Records a verified block, and its links.
     fn hold_linked(&mut self, section: &Section<'_>) -> Result<(), AllocError>
         requires verified { IsVerified (section.now.cid, section.now.block.now) }
         requires linked { IsBlockOf section.now.cid.codec section.now.block.now }
@@ -94,7 +94,7 @@ impl CarCheck {
         self.follow(section.cid.codec(), section.block)
     }
 
-    /// Notes the name of a verified block.
+    /// Records the name of a verified block.
     fn hold(&mut self, cid: Cid) -> Result<(), AllocError>
         ensures held { OnOk result (HoldsName cid self.old self.new) }
         ensures same { self.new.failed ≡ self.old.failed }
@@ -103,7 +103,7 @@ impl CarCheck {
         self.held.add(cid)
     }
 
-    /// Notes the links of a block, and those within them, that lead to no verified block so far.
+    /// Records the links of a block, and those within them, that lead to no verified block so far.
     #[tactic(auto, using(crate::proofs::Checking::links_followed))]
     fn follow(&mut self, codec: u64, block: &[u8]) -> Result<(), AllocError>
         requires { IsBlockOf codec block.now }
@@ -113,7 +113,7 @@ impl CarCheck {
         self.missing.add_links(codec, block, &self.held)
     }
 
-    /// The roots and the links that lead to no verified block, each once, in their order.
+    /// Returns the roots and links that lead to no verified block, each once, in the order of CIDs.
     pub fn missing(self, alloc: Global) -> Result<Vec<Cid>, AllocError>
         ensures lists { (roots : List (List ℕ)) (sections : List CarSection)
             → IsAfter self roots sections → IfOk result (ListsMissingInFile roots sections) }

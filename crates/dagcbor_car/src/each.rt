@@ -1,4 +1,4 @@
-//! The sections of a file, one by one, for whatever takes them.
+//! Passes the sections of a CAR file, one by one, to a sink.
 
 ghost use Rattle.std.specs.Prelude.{Result};
 ghost use Rattle.dagcbor_heads.specs.Inputs.{input_reading};
@@ -13,36 +13,38 @@ use ipld_tree::Cid;
 use std::alloc::Global;
 use thiserror::Error;
 
-/// What takes the sections of a file, one after the other.
+/// A sink that takes the sections of a CAR file, one after another.
 pub trait SectionSink {
-    /// Why it takes no more.
+    /// Why it takes no more sections.
     type Stop: Drop;
 
-    /// What taking a section does to it, and answers.
+    /// The relation of a section, the sink before, the answer of `take`, and the sink after.
     ghost takes: { CarSection → Self → Result (Unit {0}) Self.Stop → Self → Type 0 };
 
-    /// Takes the next section. After a refusal it is handed no more.
+    /// Takes the next section. After a refusal it is given no more.
     fn take(&mut self, section: &Section<'_>) -> Result<(), Self::Stop>
         ensures { Self.takes (section.now.cid, section.now.block.now) self.old result self.new };
 }
 
-/// Why a file was not read, section by section. `E` is the reader's error, `T` the sink's.
+/// Why the sections of a file were not all read. `E` is the reader's error, `T` the sink's.
 #[derive(Debug, Drop, Error)]
 pub enum ReadCarError<E, T> {
-    /// No file begins there, or its header was not read. `each_section` never answers it.
+    /// No file begins there, or its header was not read. `each_section` never returns it.
     #[error("{0}")]
     Header(CarError<E>),
-    /// After so many sections that were taken none stands, though bytes do or are wanting; or the
-    /// next was not read.
+    /// After this many sections that were taken, bytes are left or missing, and no section begins;
+    /// or the next section was not read.
     #[error("after {0} sections: {1}")]
     Section(u64, CarError<E>),
-    /// After so many sections that were taken the one of this name was not.
+    /// After this many sections that were taken, the sink refused the one with this name, for this
+    /// reason.
     #[error("after {0} sections: the next was not taken")]
     Block(u64, Cid, T),
 }
 
-/// Hands the sections that are left of a file to the sink, of which so many bytes are left, and
-/// answers how many they are. One section is in memory at a time, beside what the sink keeps.
+/// Passes the remaining sections of a file to the sink, and returns how many they are. `left` is
+/// the number of bytes left of the file, as in `pull_section`. One section is in memory at a time,
+/// besides what the sink keeps.
 pub fn each_section<'de, R: Read, S: SectionSink>(
     alloc: Global,
     input: &mut Input<'de, R>,
@@ -52,7 +54,7 @@ pub fn each_section<'de, R: Read, S: SectionSink>(
     ensures { RunsEach S.takes left.old (input_reading R.reading input.old) sink.old result
         left.new (input_reading R.reading input.new) sink.new }
 {
-    // No file has as many sections; a source that never ends may.
+    // No file has this many sections, but a source that never ends may.
     for count in 0..u64::MAX {
         let more = take_next(alloc, count, input, left, sink)?;
         if !more {
@@ -62,7 +64,7 @@ pub fn each_section<'de, R: Read, S: SectionSink>(
     Err(ReadCarError::Section(u64::MAX, CarError::OutOfMemory))
 }
 
-/// Hands the next section to the sink, after so many, and answers whether there is one.
+/// Passes the next section to the sink, after `count` others, and returns whether there was one.
 fn take_next<'de, R: Read, S: SectionSink>(
     alloc: Global,
     count: u64,

@@ -5,33 +5,32 @@ use ipld_tree::CidError;
 use std::convert::Infallible;
 use thiserror::Error;
 
-/// Why bytes are not a CAR file, at the first place where they are none; or why they were not
-/// read. `E` is the reader's error.
+/// Why bytes are not a CAR file, at the first place where that shows; or why they were not read.
+/// `E` is the reader's error.
 #[derive(Debug, Drop, Error)]
 pub enum CarError<E> {
-    /// The reader faulted.
+    /// The reader returned this error.
     #[error("the input failed")]
     Read(E),
-    /// The bytes end inside a length, or before as many follow.
+    /// The bytes end inside a length, or before the bytes that it counts end.
     #[error("the file is cut short")]
     Truncated,
-    /// A length is no varint in shortest form below 2^64.
+    /// A length is not a varint in shortest form below 2^64.
     #[error("a length is not in shortest form or too large")]
     InvalidLength,
-    /// What is in a section begins with no CID.
+    /// A section does not begin with a CID.
     #[error("no name stands before a block: {0}")]
     InvalidCid(CidError),
-    /// What is in the header is no block of DAG-CBOR that is read within 256 steps.
+    /// The header is not a block of DAG-CBOR that is read within 256 steps.
     #[error("the header is no block: {0}")]
     NoBlock(DecodeError<Infallible>),
-    /// The header is a block that is not the map of roots, and of the version 1.
+    /// The header is a block, but not the map of the roots and the version 1.
     #[error("the header is not that of version 1")]
     OtherHeader,
-    /// The file of version 1 begins inside the header of version 2, or its end is no number below
-    /// 2^64.
+    /// The file of version 1 begins inside the header of version 2, or its end is not below 2^64.
     #[error("the file of version 1 stands at no place of version 2")]
     InvalidOffset,
-    /// A growth was refused.
+    /// Memory could not be allocated.
     #[error("out of memory")]
     OutOfMemory,
 }
@@ -39,13 +38,13 @@ pub enum CarError<E> {
 /// Why a header or a section was not written. `E` is the writer's error.
 #[derive(Debug, Drop, Error)]
 pub enum CarWriteError<E> {
-    /// The writer faulted.
+    /// The writer returned this error.
     #[error("the output failed")]
     Write(E),
-    /// A growth was refused.
+    /// Memory could not be allocated.
     #[error("out of memory")]
     OutOfMemory,
-    /// An earlier call was refused, so that the file may end inside a section. Nothing was sent.
+    /// An earlier call was refused, so the file may end inside a section. Nothing was sent.
     #[error("an earlier section was not written")]
     Failed,
 }

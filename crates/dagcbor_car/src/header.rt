@@ -1,4 +1,4 @@
-//! The header at the front of bytes: the roots of a file.
+//! The header at the front of a CAR file, with the roots.
 
 ghost use Rattle.std.specs.Prelude.{◌≡◌, ◌↔◌, [], ◌∷◌, map, codes, pos, Some, IsTrue, true};
 ghost use Rattle.std.specs.Prelude.{◌≢◌, ℕ, List, MatchResult, MatchOption, IfOk, IfErr};
@@ -22,10 +22,10 @@ use ipld_tree::Cid;
 use std::alloc::{AllocError, Global};
 use std::convert::Infallible;
 
-/// The version of the file's format.
+/// The version of the format.
 const VERSION: u8 = 1;
 
-/// What stands in the header.
+/// The fields of a header, to be encoded.
 #[derive(Clone, Copy)]
 struct Header<'a> {
     roots: &'a [Cid],
@@ -47,16 +47,16 @@ impl Serialize for Header<'_> {
     }
 }
 
-/// The header of these roots.
+/// Returns the encoded header of these roots, without its length.
 #[tactic(auto, using(crate::proofs::Headers::is_written))]
 pub(crate) fn spell_header(alloc: Global, roots: &[Cid]) -> Result<Vec<u8>, AllocError>
     ensures { IfOk result (λ v. IsSpelling v.items (header_tree (forms roots.now))) }
 {
-    // Each list of CIDs has a spelling, which is refused for want of memory alone.
+    // A list of CIDs can always be encoded, so this is refused only if memory runs out.
     to_vec(alloc, &Header { roots }).map_err(|_| AllocError)
 }
 
-/// The roots of the header at the front, and the bytes after it.
+/// Returns the roots of the header at the front, and the bytes after it.
 pub fn split_header(alloc: Global, bytes: &[u8]) -> Result<(Vec<Cid>, &[u8]), CarError<Infallible>>
     ensures { MatchResult result
         (λ p. SplitsHeader bytes.now (forms p.0.items) p.1.now)
@@ -67,8 +67,8 @@ pub fn split_header(alloc: Global, bytes: &[u8]) -> Result<(Vec<Cid>, &[u8]), Ca
     Ok((roots, rest))
 }
 
-/// The block of the header at the front, and the bytes after it. No memory is taken: the roots are
-/// the links of that block.
+/// Returns the block of the header at the front, and the bytes after it. It allocates nothing: the
+/// roots are the links of that block.
 pub fn judge_header(bytes: &[u8]) -> Result<(&[u8], &[u8]), CarError<Infallible>>
     ensures header { MatchResult result
         (λ p. (roots : List (List ℕ)) × IsSpelling p.0.now (header_tree roots)
@@ -81,7 +81,7 @@ pub fn judge_header(bytes: &[u8]) -> Result<(&[u8], &[u8]), CarError<Infallible>
     Ok((inner, rest))
 }
 
-/// Whether the bytes are a header, or why not.
+/// Validates the bytes as a header.
 fn judge_block<E: Drop>(bytes: &[u8]) -> Result<(), CarError<E>>
     ensures header { MatchResult result
         (λ _. (roots : List (List ℕ)) × IsSpelling bytes.now (header_tree roots))
@@ -97,7 +97,7 @@ fn judge_block<E: Drop>(bytes: &[u8]) -> Result<(), CarError<E>>
     }
 }
 
-/// Whether the bytes are the header of some roots.
+/// Returns whether the bytes are the header of some roots.
 fn is_header(bytes: &[u8]) -> bool
     ensures { IsTrue result ↔ ((roots : List (List ℕ)) × IsSpelling bytes.now (header_tree roots)) }
 {
@@ -115,7 +115,7 @@ fn is_header(bytes: &[u8]) -> bool
     version == wanted.as_slice()
 }
 
-/// The bytes after the list of links at the front.
+/// Returns the bytes after the list of links at the front.
 fn behind_link_list(bytes: &[u8]) -> Option<&[u8]>
     ensures { MatchOption result
         (¬ ((roots : List (List ℕ)) × (rest : List ℕ)
@@ -130,7 +130,7 @@ fn behind_link_list(bytes: &[u8]) -> Option<&[u8]>
     behind_links(behind, count)
 }
 
-/// The bytes after so many links.
+/// Returns the bytes after `count` links.
 #[tactic(auto, using(crate::proofs::HeaderShape::no_link_passed))]
 fn behind_links(bytes: &[u8], count: u64) -> Option<&[u8]>
     ensures { MatchOption result
@@ -146,12 +146,12 @@ fn behind_links(bytes: &[u8], count: u64) -> Option<&[u8]>
     Some(rest)
 }
 
-/// The roots of the header that the bytes are.
+/// Reads the bytes as a whole header, and returns its roots.
 pub(crate) fn read_header<E: Drop>(alloc: Global, bytes: &[u8]) -> Result<Vec<Cid>, CarError<E>>
     ensures { ReadsHeader bytes.now result }
 {
     judge_block(bytes)?;
-    // The links of a block are refused for want of memory alone.
+    // The bytes are a block, so this is refused only if memory runs out.
     match links_from_slice(alloc, bytes) {
         Ok(roots) => Ok(roots),
         Err(_) => Err(CarError::OutOfMemory),

@@ -1,4 +1,4 @@
-//! The header and the sections of a file, taken off any reader.
+//! Reads the header and the sections of a CAR file from any reader.
 
 ghost use Rattle.std.specs.Prelude.{◌≡◌, ◌<◌, ◌≤◌, ◌+◌, ◌*◌, ◌^◌, [], ◌∷◌, ◌++◌, length, false, Some, ℕ};
 ghost use Rattle.std.specs.Prelude.{MatchResult, MatchBool, IfOk, OnOk, List};
@@ -31,19 +31,19 @@ use ipld_tree::{Cid, CidError, split_varint};
 use std::alloc::Global;
 use std::borrow::CowSlice;
 
-/// What was being read, where bytes are missing. No error of a file tells it.
+/// The name of the item in errors where bytes are missing. No `CarError` shows it.
 const NAME: &str = "file";
 
-/// How many bytes the fields of a header of version 2 have.
+/// How many bytes the fields of a version 2 header take.
 const FIELDS: usize = 40;
 
 /// How many bytes are skipped at once.
 const PIECE: usize = 1024;
 
-/// The most groups of a varint.
+/// The most bytes of a varint.
 pub(crate) const MOST_GROUPS: usize = 10;
 
-/// The refusal as one of a file.
+/// Returns the reader's refusal as a `CarError`.
 fn of_reader<E: Drop>(error: DecodeError<E>) -> CarError<E>
     ensures { result ≡ car_error error }
 {
@@ -54,7 +54,7 @@ fn of_reader<E: Drop>(error: DecodeError<E>) -> CarError<E>
     }
 }
 
-/// The next byte, which is taken.
+/// Takes the next byte.
 fn pull_byte<R: Read>(reader: &mut R) -> Result<u8, CarError<R::Error>>
     ensures taken { MatchResult result
         (λ byte. Takes (R.reading reader.old) (byte ∷ []) (R.reading reader.new))
@@ -66,7 +66,7 @@ fn pull_byte<R: Read>(reader: &mut R) -> Result<u8, CarError<R::Error>>
     pull_one(NAME, reader).map_err(of_reader)
 }
 
-/// Takes so many off the bytes that are left of the file.
+/// Subtracts `count` from the number of bytes left of the file, if that is known.
 fn spend<E: Drop>(left: &mut Option<u64>, count: u64) -> Result<(), CarError<E>>
     ensures { MatchResult result
         (λ _. Spends left.old count left.new)
@@ -84,7 +84,7 @@ fn spend<E: Drop>(left: &mut Option<u64>, count: u64) -> Result<(), CarError<E>>
     }
 }
 
-/// The next byte of the file, which is taken.
+/// Takes the next byte of the file.
 #[tactic(auto, using(crate::proofs::Spending::byte_off, crate::proofs::Spending::byte_looked, crate::proofs::Spending::over_short, crate::proofs::Spending::looked_not))]
 fn pull_next<R: Read>(reader: &mut R, left: &mut Option<u64>) -> Result<u8, CarError<R::Error>>
     ensures taken { MatchResult result
@@ -101,7 +101,7 @@ fn pull_next<R: Read>(reader: &mut R, left: &mut Option<u64>) -> Result<u8, CarE
     pull_byte(reader)
 }
 
-/// The length at the front, which is taken.
+/// Takes the length at the front.
 fn pull_length<R: Read>(reader: &mut R, left: &mut Option<u64>) -> Result<u64, CarError<R::Error>>
     ensures taken { MatchResult result
         (λ n. (n < 2 ^ 64) × TakesOff left.old (R.reading reader.old) (varint n) left.new
@@ -129,7 +129,8 @@ fn pull_length<R: Read>(reader: &mut R, left: &mut Option<u64>) -> Result<u64, C
     Err(CarError::InvalidLength)
 }
 
-/// The next n bytes, which are taken: lent by a slice, and else in memory that grows as they come.
+/// Takes the next n bytes. A slice lends them; from any other reader they are in memory that grows
+/// as they come.
 fn pull_bytes<'de, R: Read>(
     alloc: Global,
     input: &mut Input<'de, R>,
@@ -149,7 +150,7 @@ fn pull_bytes<'de, R: Read>(
     pull_payload(alloc, NAME, input, n).map_err(of_reader)
 }
 
-/// The next n bytes of the file, which are taken.
+/// Takes the next n bytes of the file.
 #[tactic(auto, using(crate::proofs::Spending::bytes_off, crate::proofs::Spending::bytes_looked, crate::proofs::Spending::over_short, crate::proofs::Spending::looked_not))]
 fn pull_body<'de, R: Read>(
     alloc: Global,
@@ -173,7 +174,7 @@ fn pull_body<'de, R: Read>(
     pull_bytes(alloc, input, n)
 }
 
-/// The bytes after the length at the front. All of them are taken.
+/// Takes the length at the front, and that many bytes. Returns the bytes.
 fn pull_counted<'de, R: Read>(
     alloc: Global,
     input: &mut Input<'de, R>,
@@ -197,7 +198,7 @@ fn pull_counted<'de, R: Read>(
     pull_body(alloc, input, left, count)
 }
 
-/// The next n bytes, at most `CAP`, which are taken, with no memory.
+/// Takes the next n bytes, at most `CAP`. It allocates nothing.
 fn pull_short<R: Read, const CAP: usize>(
     reader: &mut R,
     n: u64,
@@ -213,7 +214,7 @@ fn pull_short<R: Read, const CAP: usize>(
     pull_short_payload(NAME, reader, n).map_err(of_reader)
 }
 
-/// Takes so many bytes, in pieces.
+/// Takes `count` bytes, in pieces.
 fn skip_pieces<R: Read>(reader: &mut R, count: u64) -> Result<(), CarError<R::Error>>
     ensures taken { MatchResult result
         (λ _. (bytes : List ℕ) × (length bytes ≡ count)
@@ -233,7 +234,7 @@ fn skip_pieces<R: Read>(reader: &mut R, count: u64) -> Result<(), CarError<R::Er
     Ok(())
 }
 
-/// Takes so many bytes, which are not looked at in a slice.
+/// Takes `count` bytes. In a slice it does not look at them.
 fn skip<R: Read>(input: &mut Input<'_, R>, count: u64) -> Result<(), CarError<R::Error>>
     ensures taken { MatchResult result
         (λ _. (bytes : List ℕ) × (length bytes ≡ count)
@@ -251,8 +252,8 @@ fn skip<R: Read>(input: &mut Input<'_, R>, count: u64) -> Result<(), CarError<R:
     }
 }
 
-/// After the bytes that begin version 2: takes the header's fields, and what stands before the file of
-/// version 1, and answers how long that is.
+/// After the bytes that begin version 2: takes the header's fields, and the bytes before the file
+/// of version 1, and returns how long that file is.
 fn pull_span<R: Read>(input: &mut Input<'_, R>) -> Result<u64, CarError<R::Error>>
     ensures taken { MatchResult result
         (λ n. TakesSpan (input_reading R.reading input.old) n (input_reading R.reading input.new))
@@ -270,8 +271,8 @@ fn pull_span<R: Read>(input: &mut Input<'_, R>) -> Result<u64, CarError<R::Error
     Ok(span.length)
 }
 
-/// After the bytes that begin version 2: the roots of the file, and how many bytes of it are left
-/// after its header, which is taken.
+/// After the bytes that begin version 2: takes all up to the end of the file's header, and returns
+/// the roots, and how many bytes of the file are left.
 fn pull_enclosed<'de, R: Read>(
     alloc: Global,
     input: &mut Input<'de, R>,
@@ -292,8 +293,8 @@ fn pull_enclosed<'de, R: Read>(
     Ok((roots, left))
 }
 
-/// The roots of the file at the front, of version 1 or 2, and how many bytes of it are left after
-/// its header, which is taken: none is told of version 1, which goes on to the end.
+/// Takes the header of the file at the front, of version 1 or 2. Returns the roots, and how many
+/// bytes of the file are left: `None` for version 1, which goes on to the end.
 pub fn pull_header<'de, R: Read>(
     alloc: Global,
     input: &mut Input<'de, R>,
@@ -312,7 +313,7 @@ pub fn pull_header<'de, R: Read>(
     Ok((roots, None))
 }
 
-/// The section at the front, which is taken.
+/// Takes the section at the front.
 fn pull_first_section<'de, R: Read>(
     alloc: Global,
     input: &mut Input<'de, R>,
@@ -338,7 +339,7 @@ fn pull_first_section<'de, R: Read>(
     }
 }
 
-/// Whether nothing of the file is left. Nothing is taken.
+/// Returns whether nothing of the file is left. Nothing is taken.
 fn is_done<R: Read>(reader: &mut R, left: Option<u64>) -> Result<bool, R::Error>
     ensures done { MatchResult result
         (λ done. MatchBool done
@@ -353,8 +354,8 @@ fn is_done<R: Read>(reader: &mut R, left: Option<u64>) -> Result<bool, R::Error>
     }
 }
 
-/// The section at the front, which is taken, or nothing at the end of the file, of which `left` says
-/// how many bytes are left, as `pull_header` does.
+/// Takes the section at the front. `None` at the end of the file. `left` is the number of bytes
+/// left of the file, as `pull_header` returns it.
 pub fn pull_section<'de, R: Read>(
     alloc: Global,
     input: &mut Input<'de, R>,

@@ -1,4 +1,4 @@
-//! The header and the sections of a file, appended to any writer.
+//! Writes the header and the sections of a CAR file to any writer.
 
 ghost use Rattle.std.specs.Prelude.{◌≡◌, Some, OnOk};
 ghost use Rattle.dagcbor_heads.specs.Written.{Writes, WantsMemoryOnlyIf};
@@ -16,8 +16,7 @@ use dagcbor_heads::{Write, WriteResult};
 use ipld_tree::Cid;
 use std::alloc::Global;
 
-/// Appends the header of the file of these roots. Its spelling takes memory, whatever the writer
-/// does.
+/// Appends the header of a file with these roots. Encoding it allocates, whatever the writer does.
 pub fn push_header<W: Write>(alloc: Global, writer: &mut W, roots: &[Cid]) -> WriteResult<(), W>
     ensures written { Writes (Some (header_bytes (forms roots.now)))
         (W.written writer.old) (W.written writer.new) result }
@@ -31,7 +30,7 @@ pub fn push_header<W: Write>(alloc: Global, writer: &mut W, roots: &[Cid]) -> Wr
     push_counted(writer, &spelled)
 }
 
-/// Appends the bytes after their length.
+/// Appends the length of the bytes, and the bytes.
 fn push_counted<W: Write>(writer: &mut W, bytes: &[u8]) -> WriteResult<(), W>
     ensures written { Writes (Some (counted bytes.now))
         (W.written writer.old) (W.written writer.new) result }
@@ -41,7 +40,7 @@ fn push_counted<W: Write>(writer: &mut W, bytes: &[u8]) -> WriteResult<(), W>
     writer.push(bytes)
 }
 
-/// Appends the section of the block under this name, which need not be its own.
+/// Appends the section of the block under this name. The name is not compared with the block.
 pub fn push_section<W: Write>(writer: &mut W, cid: &Cid, block: &[u8]) -> WriteResult<(), W>
     ensures written { Writes (Some (section_bytes (cid.now, block.now)))
         (W.written writer.old) (W.written writer.new) result }
@@ -55,7 +54,7 @@ pub fn push_section<W: Write>(writer: &mut W, cid: &Cid, block: &[u8]) -> WriteR
     writer.push(block)
 }
 
-/// Appends a length, as a varint.
+/// Appends a length as a varint.
 fn push_length<W: Write>(writer: &mut W, length: usize) -> WriteResult<(), W>
     ensures written { Writes (Some (varint length))
         (W.written writer.old) (W.written writer.new) result }
@@ -64,7 +63,7 @@ fn push_length<W: Write>(writer: &mut W, length: usize) -> WriteResult<(), W>
     writer.push(&varint_of(length as u64))
 }
 
-/// The groups of seven bits, the lowest first.
+/// Returns the varint of the number: groups of seven bits, the lowest first.
 fn varint_of(number: u64) -> ArrayVec<u8, MOST_GROUPS>
     ensures { result.items ≡ varint number }
 {

@@ -1,4 +1,4 @@
-//! A section that was read: lent by a slice, or in memory of its own.
+//! A section that was read: lent by a slice, or in its own memory.
 
 ghost use Rattle.std.specs.Prelude.{◌≡◌, MatchResult};
 ghost use Rattle.std.specs.Cow.{cow_slice_items};
@@ -9,7 +9,7 @@ use ipld_tree::{Cid, CidError};
 use std::borrow::CowSlice;
 use std::marker::Model;
 
-/// A section that was read: lent by a slice, or in memory of its own. Contracts see the name and the
+/// A section that was read: lent by a slice, or in its own memory. Contracts see the name, and the
 /// bytes of the block.
 #[derive(Drop)]
 pub struct ReadSection<'de> {
@@ -33,7 +33,7 @@ impl<'de> Model for ReadSection<'de> {
 }
 
 impl<'de> ReadSection<'de> {
-    /// The section whose name and block the bytes are.
+    /// Returns the section with this body: a CID, and the block after it.
     pub(crate) fn new(body: CowSlice<'de, u8>) -> Result<ReadSection<'de>, CidError>
         ensures { MatchResult result
             (λ s. BeginsWithCid (cow_slice_items body.entry) s.0 s.1)
@@ -43,21 +43,21 @@ impl<'de> ReadSection<'de> {
         Ok(ReadSection { cid, body, start })
     }
 
-    /// The name, which need not be the block's own.
+    /// Returns the name. The block may have another.
     pub fn cid(&self) -> Cid
         ensures { result ≡ self.now.0 }
     {
         self.cid
     }
 
-    /// The block.
+    /// Returns the block.
     pub fn block(&self) -> &[u8]
         ensures { result.now ≡ self.now.1 }
     {
         &self.body[self.start..]
     }
 
-    /// Both.
+    /// Returns the name and the block.
     pub fn section(&self) -> Section<'_>
         ensures cid { result.cid ≡ self.now.0 }
         ensures block { result.block.now ≡ self.now.1 }

@@ -1,4 +1,4 @@
-//! The sections of a file, one by one, from a slice or any reader.
+//! Reads the sections of a CAR file one by one, from a slice or any reader.
 
 ghost use Rattle.std.specs.Prelude.{◌≡◌, [], Some, true};
 ghost use Rattle.dagcbor_heads.specs.Inputs.{input_reading, not_lending};
@@ -14,22 +14,22 @@ use ipld_tree::Cid;
 use std::alloc::Global;
 use std::convert::Infallible;
 
-/// The sections of a file, one by one: at most one is in memory, and none where a slice lends them.
-/// After an error, and after the end, nothing more comes.
+/// The sections of a file, one by one. At most one is in memory, and none if a slice lends them.
+/// After an error, and after the end, `next` returns `None`.
 #[derive(Drop)]
 pub struct CarReader<'de, R> {
     alloc: Global,
     input: Input<'de, R>,
-    /// How many bytes of the file are left, as `pull_header` tells.
+    /// How many bytes of the file are left, as `pull_header` returns it.
     left: Option<u64>,
     done: bool,
 }
 
-/// The roots of a file, and the sections after its header; or why there are none.
+/// The roots of a file, and a reader of its sections; or why the file was not begun.
 pub type Begun<'de, R> = Result<(Vec<Cid>, CarReader<'de, R>), CarError<<R as Read>::Error>>;
 
 impl<'de> CarReader<'de, SliceReader<'de>> {
-    /// Reads the header of the file that the bytes are.
+    /// Reads the header of the file in the bytes.
     pub fn from_slice(alloc: Global, bytes: &'de [u8]) -> Begun<'de, SliceReader<'de>>
         ensures { Begins (λ r. r) (fresh_reading (Some bytes.now) default_steps true []) result }
     {
@@ -38,7 +38,7 @@ impl<'de> CarReader<'de, SliceReader<'de>> {
 }
 
 impl<'de, R: Read> CarReader<'de, R> {
-    /// Reads the header of the file that the reader has.
+    /// Reads the header of the file in the reader.
     pub fn new(alloc: Global, reader: R) -> Begun<'de, R>
         ensures { Begins R.reading (not_lending (R.reading reader)) result }
     {
@@ -58,7 +58,7 @@ impl<'de, R: Read> CarReader<'de, R> {
         Ok((roots, sections))
     }
 
-    /// The next section. None at the end of the file.
+    /// Returns the next section. `None` at the end of the file.
     pub fn next(&mut self) -> Option<Result<ReadSection<'de>, CarError<R::Error>>>
         ensures { GivesSection (section_stream R.reading self.old) result
             (section_stream R.reading self.new) }

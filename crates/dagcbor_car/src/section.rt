@@ -9,17 +9,17 @@ use crate::error::CarError;
 use ipld_tree::{Cid, CidError, split_varint};
 use std::convert::Infallible;
 
-/// The greatest length of a digest.
+/// The greatest length of a digest, in bytes.
 const LONGEST_DIGEST: u64 = 64;
 
-/// A block of a file and its name, which need not be its own.
+/// A block of a file and its name. The name may be another block's.
 #[derive(Clone, Copy, Debug)]
 pub struct Section<'a> {
     pub cid: Cid,
     pub block: &'a [u8],
 }
 
-/// The section at the front, and the bytes after it.
+/// Returns the section at the front, and the bytes after it.
 pub fn split_section(bytes: &[u8]) -> Result<(Section<'_>, &[u8]), CarError<Infallible>>
     ensures { MatchResult result
         (λ p. SplitsSection bytes.now (p.0.cid, p.0.block.now) p.1.now)
@@ -32,7 +32,7 @@ pub fn split_section(bytes: &[u8]) -> Result<(Section<'_>, &[u8]), CarError<Infa
     }
 }
 
-/// The bytes after the length at the front, and those after them.
+/// Returns the bytes that the length at the front counts, and the bytes after those.
 pub(crate) fn split_counted(bytes: &[u8]) -> Result<(&[u8], &[u8]), CarError<Infallible>>
     ensures { MatchResult result
         (λ p. SplitsCounted bytes.now p.0.now p.1.now)
@@ -45,7 +45,7 @@ pub(crate) fn split_counted(bytes: &[u8]) -> Result<(&[u8], &[u8]), CarError<Inf
     }
 }
 
-/// So many bytes, and those after them.
+/// Returns the first `count` bytes, and the bytes after them.
 fn split_bytes(bytes: &[u8], count: u64) -> Result<(&[u8], &[u8]), CarError<Infallible>>
     ensures { MatchResult result
         (λ p. (length p.0.now ≡ count) × (bytes.now ≡ p.0.now ++ p.1.now))
@@ -57,7 +57,7 @@ fn split_bytes(bytes: &[u8], count: u64) -> Result<(&[u8], &[u8]), CarError<Infa
     }
 }
 
-/// The CID at the front, and how many bytes it has.
+/// Returns the CID at the front, and its length in bytes.
 pub(crate) fn measure_cid(bytes: &[u8]) -> Result<(Cid, usize), CidError>
     ensures { MatchResult result
         (λ p. (p.1 ≤ length bytes.now) × BeginsWithCid bytes.now p.0 (drop p.1 bytes.now))
@@ -69,7 +69,7 @@ pub(crate) fn measure_cid(bytes: &[u8]) -> Result<(Cid, usize), CidError>
     }
 }
 
-/// The CID at the front, and the bytes after it. The fault is that of `Cid::try_from`.
+/// Returns the CID at the front, and the bytes after it. The error is that of `Cid::try_from`.
 fn split_cid(bytes: &[u8]) -> Result<(Cid, &[u8]), CidError>
     ensures { MatchResult result
         (λ p. BeginsWithCid bytes.now p.0 p.1.now)
@@ -83,7 +83,7 @@ fn split_cid(bytes: &[u8]) -> Result<(Cid, &[u8]), CidError>
     }
 }
 
-/// What follows the first two bytes of version 0.
+/// Returns the CID of version 0 whose first two bytes came before these, and the bytes after it.
 #[tactic(auto, using(crate::proofs::Fronts::front_of_digest))]
 fn split_version_0(bytes: &[u8]) -> Result<(Cid, &[u8]), CidError>
     ensures { MatchResult result
@@ -96,7 +96,7 @@ fn split_version_0(bytes: &[u8]) -> Result<(Cid, &[u8]), CidError>
     }
 }
 
-/// What follows the first byte of version 1.
+/// Returns the CID of version 1 whose first byte came before these, and the bytes after it.
 fn split_version_1(fields: &[u8]) -> Result<(Cid, &[u8]), CidError>
     ensures { MatchResult result
         (λ p. BeginsWithCid (0x01 ∷ fields.now) p.0 p.1.now)

@@ -1,4 +1,4 @@
-//! A file of the blocks that links lead to.
+//! Writes a CAR file of the blocks that links lead to.
 
 ghost use Rattle.std.specs.Prelude.{◌≡◌, [], ◌∷◌, Some, OnOk};
 ghost use Rattle.std.specs.List.{AllByRecursion, flat_map};
@@ -16,8 +16,8 @@ use ipld_tree::Cid;
 use std::alloc::Global;
 use std::collections::BTreeMap;
 
-/// Appends the file of one root, and of the blocks that the map has under these names, in their
-/// order. The header's spelling takes memory, whatever the writer does.
+/// Appends a file of one root, and of the blocks that the map has under these names, in their
+/// order. Encoding the header allocates, whatever the writer does.
 pub fn push_tree<W: Write>(
     alloc: Global,
     writer: &mut W,
@@ -41,7 +41,7 @@ pub fn push_tree<W: Write>(
     Ok(())
 }
 
-/// Appends the section of the name, where the map has a block under it.
+/// Appends the section of the name, if the map has a block under it.
 fn push_stored<W: Write>(
     writer: &mut W,
     blocks: &BTreeMap<Cid, Vec<u8>>,

@@ -1,4 +1,4 @@
-//! Where the file of version 1 stands in one of version 2.
+//! The place of the file of version 1 in a file of version 2.
 
 ghost use Rattle.std.specs.Prelude.{◌≡◌, ◌≤◌, ◌<◌, ◌+◌, ◌^◌, ◌∷◌, ◌++◌, ◌⊎◌, ◌↔◌, length, IsTrue};
 ghost use Rattle.std.specs.Prelude.{MatchResult, MatchOption};
@@ -8,23 +8,24 @@ ghost use Rattle.dagcbor_car.specs.Versions.{MayBeVersion2, SpanRefused};
 use crate::error::CarError;
 use std::convert::Infallible;
 
-/// The bytes that begin version 2: a length, and the map of the version alone.
+/// The bytes that begin version 2: a length, and the map of the version alone (CARv2).
 const PRAGMA: [u8; 11] = [
     0x0a, 0xa1, 0x67, 0x76, 0x65, 0x72, 0x73, 0x69, 0x6f, 0x6e, 0x02,
 ];
 
-/// How many bytes the header of version 2 has.
+/// How many bytes the header of version 2 takes.
 pub(crate) const HEADER_LENGTH: u64 = 51;
 
-/// Where the file of version 1 stands in one of version 2, counted from the first byte.
+/// The place of the file of version 1 in a file of version 2, in bytes. `begin` counts from the
+/// first byte.
 #[derive(Clone, Copy, Debug)]
 pub struct Span {
     pub begin: u64,
     pub length: u64,
 }
 
-/// Where the file of version 1 stands, if the bytes begin one of version 2: 51 of them tell it, and
-/// it may lie after these bytes. None where they cannot begin one.
+/// Returns the place of the file of version 1, if the bytes begin a file of version 2. The first 51
+/// bytes say it, and it may lie after these bytes. `None` if they cannot begin version 2.
 pub fn file_span(bytes: &[u8]) -> Result<Option<Span>, CarError<Infallible>>
     ensures { MatchResult result
         (λ found. MatchOption found
@@ -45,7 +46,7 @@ pub fn file_span(bytes: &[u8]) -> Result<Option<Span>, CarError<Infallible>>
     }
 }
 
-/// Whether the bytes begin version 2, or might go on so.
+/// Returns whether the bytes begin version 2, or are the first of those that do.
 fn may_be_version_2(bytes: &[u8]) -> bool
     ensures { IsTrue result ↔ MayBeVersion2 bytes.now }
 {
@@ -53,15 +54,15 @@ fn may_be_version_2(bytes: &[u8]) -> bool
     bytes[..count] == PRAGMA[..count]
 }
 
-/// Whether the bytes stand after their length where version 2 begins.
+/// Returns whether the bytes, after their length, begin version 2.
 pub(crate) fn is_version_2(bytes: &[u8]) -> bool
     ensures { IsTrue result ↔ (0x0a ∷ bytes.now ≡ pragma) }
 {
     bytes == &PRAGMA[1..]
 }
 
-/// Where the file of version 1 stands, by the fields of the header. None where it begins in that
-/// header, or its end is no number below 2^64.
+/// Returns the place of the file of version 1 that the header's fields say. `None` if it begins
+/// inside that header, or its end is not below 2^64.
 pub(crate) fn span_of(fields: &[u8]) -> Option<Span>
     requires { 40 ≤ length fields.now }
     ensures { MatchOption result
@@ -78,7 +79,7 @@ pub(crate) fn span_of(fields: &[u8]) -> Option<Span>
     Some(Span { begin, length })
 }
 
-/// The number of eight bytes, the lowest of them first, of which so many stand before.
+/// Returns the little-endian number in the eight bytes after the first `before` ones.
 fn number_behind(bytes: &[u8], before: usize) -> u64
     requires { before + 8 ≤ length bytes.now }
     ensures { result ≡ number_behind before bytes.now }

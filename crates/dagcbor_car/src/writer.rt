@@ -1,4 +1,4 @@
-//! A file that is written section by section.
+//! Writes a CAR file section by section.
 
 ghost use Rattle.std.specs.Prelude.{◌≡◌, Some};
 ghost use Rattle.dagcbor_items.specs.Walks.{forms};
@@ -13,8 +13,8 @@ use ipld_tree::Cid;
 use std::alloc::Global;
 use std::marker::Model;
 
-/// Writes a file: its header, and then section by section. No section takes memory but for the
-/// writer's. After a refusal the file may end inside a section, and each later call is refused.
+/// Writes a CAR file: its header, and then section by section. No section allocates unless the
+/// writer does. After a refusal the file may end inside a section, and each later call is refused.
 #[derive(Drop)]
 pub struct CarWriter<W> {
     writer: W,
@@ -30,7 +30,7 @@ impl<W> Model for CarWriter<W> {
 }
 
 impl<W> CarWriter<W> {
-    /// The writer, with what was written to it.
+    /// Returns the writer.
     pub fn into_writer(self) -> W
         ensures { result ≡ self.writer }
     {
@@ -40,8 +40,8 @@ impl<W> CarWriter<W> {
 }
 
 impl<W: Write + Drop> CarWriter<W> {
-    /// Writes the header of the file of these roots. Where it is refused the writer is let go:
-    /// `push_header` leaves it to its caller.
+    /// Writes the header of a file with these roots. If it is refused, the writer is dropped; use
+    /// `push_header` to keep it.
     pub fn new(
         alloc: Global,
         mut writer: W,
@@ -60,7 +60,7 @@ impl<W: Write + Drop> CarWriter<W> {
 }
 
 impl<W: Write> CarWriter<W> {
-    /// Writes the section of the block under this name, which need not be its own.
+    /// Writes the section of the block under this name. The name is not compared with the block.
     pub fn write(&mut self, cid: &Cid, block: &[u8]) -> Result<(), CarWriteError<W::Error>>
         ensures { WritesSection W.written W.takes_memory (cid.now, block.now) self.old result
             self.new }
@@ -78,7 +78,8 @@ impl<W: Write> CarWriter<W> {
     }
 }
 
-/// The writer's refusal as one of a file. No message comes, since what is sent has a spelling.
+/// Returns the writer's refusal as a `CarWriteError`. It is never `Msg`, because sections can
+/// always be encoded.
 fn refusal<E: Drop>(error: EncodeError<E>) -> CarWriteError<E>
     requires { IsWriteExcuse error }
     ensures { writer_refusal result ≡ Some error }

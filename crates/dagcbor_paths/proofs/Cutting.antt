@@ -6,7 +6,7 @@ use Rattle.std.specs.List.{slice_get}
 use Rattle.dagcbor_paths.specs.Paths.{onto_first, pieces, without_empty, segments}
 use Rattle.dagcbor_paths.specs.Parts.{EndsWith}
 
--- no slash stands in the text
+-- the text has no slash
 abbrev pub HasNoSlash : List ℕ → Type 0
 HasNoSlash s = (i : ℕ) → i < length s → get_or s i 0 ≢ 47
 
@@ -65,7 +65,7 @@ pub some_first : (s : List ℕ) (b : ℕ) → Some b ≡ slice_get s 0 → 0 < l
 some_first [] b is = absurd cc
 some_first (a ∷ s) b is = omega arith
 
--- ---- what is left after
+-- ---- the text left after a segment
 
 pub behind_slash : (path left s more : List ℕ) → EndsWith path left → left ≡ s ++ 47 ∷ more → EndsWith path more
 behind_slash path left s more ends is =

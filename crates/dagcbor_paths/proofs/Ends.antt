@@ -1,4 +1,4 @@
--- What is told where a walk ended.
+-- The answer at the end of a walk.
 use Rattle.std.proofs.Common.{Bor, rules, ◌≡◌, ◌≢◌, ℕ, ◌-◌, List, [], ◌∷◌, ◌++◌, length, take, refl, sym, ap, ◌∙◌, subst, arith, append_assoc, append-nil, length-append, Option, None, Some, MatchOption, Result, Ok, Err}
 use Rattle.std.specs.List.{slice_get}
 use Rattle.std.specs.Option.{IsSome}
@@ -71,7 +71,7 @@ link_shown : (t : Tree) (s : List ℕ) → view_link t ≡ Some s → t ≡ link
 link_shown (link x) s e = (let same : x ≡ s = cc in ap link same)
 link_shown _ s e = absurd cc
 
--- a link was pulled, or none stands there
+-- a link was pulled, or the item is not a link
 abbrev pub PullsLink : List ℕ → Option CidParts → Type 0
 PullsLink b result = (t : Tree) → BeginsWithTree b t → MatchOption result ((cid : List ℕ) → t ≢ link cid) (λ c. t ≡ link (cid_bytes c))
 
@@ -92,7 +92,7 @@ link_told b old new (Err e) l h = λ t k cid is.
 
 -- ---- the walk
 
--- what is known of it
+-- the walk has come to these bytes, with these segments left
 abbrev pub Walks : List ℕ → List (List ℕ) → List ℕ → List (List ℕ) → Type 0
 Walks b path at left = (t : Tree) → BeginsWithTree b t → (u : Tree) × Walked t path left u at
 

@@ -22,14 +22,14 @@ has_value key (entry k u es) t (inr more) = inr (has_value key es t more)
 pub never_below : (k : List ℕ) → key_cmp k k ≡ Less → ⊥
 never_below k h = let differ : Equal ≡ Less = sym (key_cmp_same k) ∙ h in cc
 
--- what comes before the first key is no key
+-- a key that comes before the first key of the entries is not among them
 pub no_key_from : (key k : List ℕ) (u t : Tree) (es : Entries) → AreEntries (entry k u es) → comes_before key k ≡ true → ¬ IsValueOf key (entry k u es) t
 no_key_from key k u t es well before (inl same) = never_below key (subst (λ x. key_cmp key x ≡ Less) same.0 (less_from_before key k before))
 no_key_from key k u t es well before (inr more) = never_below key (key_cmp_total.trans key k key (less_from_before key k before) (above k es well.2 (rising es well.3) key t (has_value key es t more)))
 
 -- ---- the loop
 
--- of the entries that stand there, those to come are left, and the key is theirs where it is one
+-- `to_come` of the entries are left, and they have the value of the key, if any entry does
 pub record KeysPassed (b : List ℕ) (count to_come : ℕ) (key now : List ℕ) : Type 0 where
   left : (es : Entries) (rest : List ℕ) → AreEntryFronts b es rest → entry_count es ≡ count → entries_need es ≤ 256
       → (fs : Entries) × (entry_count fs ≡ to_come) × AreEntryFronts now fs rest × (entries_need fs ≤ 256) × ((t : Tree) → IsValueOf key fs t → IsValueOf key es t) × ((t : Tree) → IsValueOf key es t → IsValueOf key fs t)
@@ -39,7 +39,7 @@ pub record KeysPassed (b : List ℕ) (count to_come : ℕ) (key now : List ℕ) 
 pub no_key_passed : (b : List ℕ) (count : ℕ) (key : List ℕ) → KeysPassed b count count key b
 no_key_passed b count key = record { left = λ es rest f e n. (es, e, f, n, (λ t h. h), (λ t h. h)); before = []; whole = refl }
 
--- the key that stands there is this one, and these bytes stand after it
+-- `next` is the key at the front, and `value` are the bytes after it
 abbrev pub IsNextKey : List ℕ → List ℕ → List ℕ → Type 0
 IsNextKey now next value = (key rest : List ℕ) → IsFront now (text key) rest → (next ≡ key) × (value ≡ rest)
 
@@ -70,7 +70,7 @@ next_entry now next value end to_come (entry k u gs) some e f n splits =
       needs = omega (arith, n);
     }
 
--- no key stands there
+-- if no key is at the front, there is no entry, though one is to come
 pub no_key_there : {A : Type 0} (bytes_of : A → List ℕ) (b now key : List ℕ) (count to_come : ℕ) → 0 < to_come → KeysPassed b count to_come key now → ((k rest : List ℕ) → IsFront now (text k) rest → ⊥) → FindsValue {A = A} bytes_of b count key None
 no_key_there bytes_of b now key count to_come some s none = λ es rest f e n. let q = s.left es rest f e n in absurd (by rest q.0 q.1 q.2)
   where
@@ -85,21 +85,21 @@ no_value_there bytes_of b now next value key count to_come some s splits none = 
     let o = next_entry now next value rest to_come q.0 some q.1 q.2 q.3 splits in
     absurd (none o.tree o.behind o.front)
 
--- the key stands there
+-- the key at the front is the one that is looked for
 pub value_found : {A : Type 0} (bytes_of : A → List ℕ) (a : A) (b now next key : List ℕ) (count to_come : ℕ) → 0 < to_come → KeysPassed b count to_come key now → IsNextKey now next (bytes_of a) → next ≡ key → FindsValue bytes_of b count key (Some a)
 value_found bytes_of a b now next key count to_come some s splits same = λ es rest f e n.
     let q = s.left es rest f e n in
     let o = next_entry now next (bytes_of a) rest to_come q.0 some q.1 q.2 q.3 splits in
     (o.tree, q.4 o.tree (subst (λ x. IsValueOf key x o.tree) (sym o.is) (inl (same, refl))), (o.behind, o.front, o.need))
 
--- a key stands there that follows it
+-- the key at the front comes after the one that is looked for
 pub key_passed_over : {A : Type 0} (bytes_of : A → List ℕ) (b now next value key : List ℕ) (count to_come : ℕ) → 0 < to_come → KeysPassed b count to_come key now → IsNextKey now next value → comes_before key next ≡ true → FindsValue {A = A} bytes_of b count key None
 key_passed_over bytes_of b now next value key count to_come some s splits before = λ es rest f e n.
     let q = s.left es rest f e n in
     let o = next_entry now next value rest to_come q.0 some q.1 q.2 q.3 splits in
     λ t h. no_key_from key next o.tree t o.more (subst AreEntries o.is q.2.well_formed) before (subst (λ x. IsValueOf key x t) o.is (q.5 t h))
 
--- another key stands there, and is passed
+-- the key at the front is another, and its entry is passed
 pub one_key_passed : (b now next value rest key : List ℕ) (count to_come : ℕ) → 0 < to_come → KeysPassed b count to_come key now → IsNextKey now next value → EndsWith now value → ¬ (next ≡ key) → ((t : Tree) (r : List ℕ) → IsFront value t r → rest ≡ r) → EndsWith value rest → KeysPassed b count (to_come - 1) key rest
 one_key_passed b now next value rest key count to_come some s splits ends other found within = record {
   left = λ es end f e n. let q = s.left es end f e n in behind es end q.0 q.1 q.2 q.3 q.4 q.5;
@@ -132,6 +132,6 @@ all_keys_passed bytes_of b now key count to_come none s = λ es rest f e n t h. 
     by t no_entries e h = h
     by t (entry k u gs) e h = omega (arith, none, e)
 
--- what follows a key ends the bytes
+-- the bytes after a key are the last of the bytes
 pub value_within : (b now value key : List ℕ) (count to_come : ℕ) → KeysPassed b count to_come key now → EndsWith now value → EndsWith b value
 value_within b now value key count to_come s ends = (s.before ++ ends.0, s.whole ∙ ap (λ x. s.before ++ x) ends.1 ∙ sym (append_assoc s.before ends.0 value))

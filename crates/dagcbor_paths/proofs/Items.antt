@@ -12,7 +12,7 @@ index_below n no_items t h = absurd h
 index_below zero (item u us) t h = omega arith
 index_below (suc n) (item u us) t h = omega (arith, index_below n us t h)
 
--- after so many items, the one of the index begins
+-- after n items, the item with the index n begins
 pub item_begins : (n : ℕ) (ts us : Items) (b at rest : List ℕ) → AreFronts b ts rest → items_need ts ≤ 256 → AreFronts b us at → item_count us ≡ n → n < item_count ts
     → (t : Tree) × IsItemAt n ts t × BeginsWithTree at t
 item_begins n no_items us b at rest f need g e few = absurd (omega (arith, few))
@@ -26,7 +26,7 @@ item_begins (suc n) (item t ts) (item u us) b at rest f need g e few =
     let a = items_after b (items_spelling ts ++ rest) at t u us o.0 g in
     item_begins n ts us (items_spelling ts ++ rest) at rest o.1 (omega (arith, need)) a.1 (omega (arith, e)) (omega (arith, few))
 
--- so many of the items stand there, where there are no fewer
+-- the first n items begin here, if there are at least n
 pub some_items : (n : ℕ) (ts : Items) (b rest : List ℕ) → AreFronts b ts rest → items_need ts ≤ 256 → n ≤ item_count ts → (at : List ℕ) × ((us : Items) × (item_count us ≡ n) × AreFronts b us at × (items_need us ≤ 256))
 some_items zero ts b rest f need few = (b, (no_items, refl, record { well_formed = tt; spellable = tt; is = refl }, omega arith))
 some_items (suc n) no_items b rest f need few = absurd (omega (arith, few))

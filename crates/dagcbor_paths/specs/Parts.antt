@@ -5,7 +5,7 @@ use Rattle.ipld_tree.specs.Tree.{Tree, Items, Entries, any_need, items_need, ent
 use Rattle.ipld_tree.specs.Spelling.{item_count, entry_count, IsFront, AreFronts, AreEntryFronts}
 use Rattle.dagcbor_paths.specs.Paths.{IsItemAt, IsValueOf, IsPart}
 
--- the last of the bytes are these
+-- the bytes end with these
 abbrev pub EndsWith : List ℕ → List ℕ → Type 0
 EndsWith b end = (before : List ℕ) × (b ≡ before ++ end)
 
@@ -13,23 +13,23 @@ EndsWith b end = (before : List ℕ) × (b ≡ before ++ end)
 abbrev pub BeginsWithTree : List ℕ → Tree → Type 0
 BeginsWithTree b t = (rest : List ℕ) × IsFront b t rest × (any_need t ≤ default_steps)
 
--- a tree that is so begins at these bytes, exactly where there is one
+-- the bytes begin with a tree of which `IsSo` holds; `None` exactly if there is no such tree
 abbrev pub GivesPart : {A : Type 0} → (A → List ℕ) → (Tree → Type 0) → Option A → Type 0
 GivesPart bytes_of IsSo result = MatchOption result ((t : Tree) → ¬ IsSo t)
     (λ a. (t : Tree) × IsSo t × BeginsWithTree (bytes_of a) t)
 
--- of items that stand there, the one of the index is found
+-- if the bytes begin with n items, that with the index is found
 abbrev pub FindsItem : {A : Type 0} → (A → List ℕ) → (b : List ℕ) → (count n : ℕ) → Option A → Type 0
 FindsItem bytes_of b count n result = (ts : Items) (rest : List ℕ) → AreFronts b ts rest
     → item_count ts ≡ count → items_need ts ≤ default_steps → GivesPart bytes_of (IsItemAt n ts) result
 
--- of entries that stand there, the value of the key is found
+-- if the bytes begin with n entries, the value of the key is found
 abbrev pub FindsValue : {A : Type 0} → (A → List ℕ) → (b : List ℕ) → (count : ℕ) → List ℕ → Option A
     → Type 0
 FindsValue bytes_of b count key result = (es : Entries) (rest : List ℕ) → AreEntryFronts b es rest
     → entry_count es ≡ count → entries_need es ≤ default_steps
     → GivesPart bytes_of (IsValueOf key es) result
 
--- of the tree that stands there, the part is found to which the segment leads
+-- if the bytes begin with a tree, the part to which the segment leads is found
 abbrev pub FindsPart : {A : Type 0} → (A → List ℕ) → List ℕ → List ℕ → Option A → Type 0
 FindsPart bytes_of b segment result = (t : Tree) → BeginsWithTree b t → GivesPart bytes_of (IsPart segment t) result

@@ -1,4 +1,4 @@
-//! What a path leads to in a block.
+//! Finds what a path leads to in a block.
 
 ghost use Rattle.std.specs.Prelude.{◌≡◌, ◌≢◌, map, Some, IfOk, IfErr, IfSome};
 ghost use Rattle.dagcbor_core.specs.declared.error.DecodeError.TheVariants.{OutOfMemory};
@@ -23,34 +23,35 @@ use std::convert::Infallible;
 #[derive(Clone, Copy, Debug)]
 pub struct Item<'b> {
     pub kind: Kind,
-    /// Where it begins in the block.
+    /// The byte of the block at which the item begins, counted from 0.
     pub place: usize,
-    /// Its bytes, which are a block.
+    /// The item's bytes. They are a block themselves.
     pub bytes: &'b [u8],
 }
 
 /// Where a walk along a path stopped in a block.
 #[derive(Clone, Copy, Debug)]
 pub struct Stop<'b, 'p> {
-    /// The last item to which a front of the path leads.
+    /// The last item to which a first part of the path leads.
     pub item: Item<'b>,
-    /// The path that is left there: it has no segment, or its first leads nowhere from the item.
+    /// The rest of the path. It is empty, or its first segment leads nowhere from the item.
     pub left: &'p str,
 }
 
 /// How far a path leads in a block.
 #[derive(Debug, Drop)]
 pub enum Found<'b, 'p> {
-    /// All of it: to this item.
+    /// The whole path leads to this item.
     Item(Item<'b>),
-    /// To this link, at which this path is left.
+    /// The path leads to this link, and this part of the path is left.
     Link(Cid, &'p str),
-    /// To an item that is no link, from which the first segment of this path leads nowhere.
+    /// The path leads to an item that is not a link. From there the first segment of this rest of
+    /// the path leads nowhere.
     Nothing(&'p str),
 }
 
-/// As far as the path leads from the item at the front: the bytes that begin there, and the path that
-/// is left.
+/// Follows the path from the item at the front, as far as it leads. Returns the bytes from the item
+/// reached onwards, and the rest of the path.
 fn follow<'b, 'p>(bytes: &'b [u8], path: &'p str) -> (&'b [u8], &'p str)
     ensures led { FollowsPath bytes.now (segments path.now) result.0.now (segments result.1.now) }
     ensures within { EndsWith bytes.now result.0.now }
@@ -68,7 +69,8 @@ fn follow<'b, 'p>(bytes: &'b [u8], path: &'p str) -> (&'b [u8], &'p str)
     (at, left)
 }
 
-/// The part of the item at the front to which the segments lead, one after the other.
+/// Follows the segments from the item at the front. Returns the bytes from the item reached
+/// onwards, or `None` if they lead nowhere.
 fn part_along<'b>(bytes: &'b [u8], segments: &[&str]) -> Option<&'b [u8]>
     ensures found { FindsAlong (λ s. s.now) bytes.now (map (λ s. s.now) segments.now) result }
     ensures within { IfSome result (λ s. EndsWith bytes.now s.now) }
@@ -80,7 +82,7 @@ fn part_along<'b>(bytes: &'b [u8], segments: &[&str]) -> Option<&'b [u8]>
     Some(at)
 }
 
-/// The item at the front of these last bytes of the block.
+/// Returns the item at the front of these last bytes of the block.
 fn item_in<'b>(block: &[u8], at: &'b [u8]) -> Option<Item<'b>>
     requires { EndsWith block.now at.now }
     ensures { TellsItem block.now at.now result }
@@ -94,17 +96,18 @@ fn item_in<'b>(block: &[u8], at: &'b [u8]) -> Option<Item<'b>>
     })
 }
 
-/// The link at the front.
+/// Returns the link at the front. `None` if the item is not a link.
 fn first_link(bytes: &[u8]) -> Option<Cid>
     ensures { TellsLink bytes.now result }
 {
     let cid = pull_link(&mut SliceReader::new(bytes)).ok()?;
-    // What is known of a CID comes with its version.
+    // The contract of `version` tells the proof what holds of a CID.
     let _version = cid.version();
     Some(cid)
 }
 
-/// What the block has at these last bytes of it, where a walk ended with this path left.
+/// Returns how far a path led, if the walk ended at these last bytes of the block with this path
+/// left.
 fn found_at<'b, 'p>(block: &[u8], at: &'b [u8], left: &'p str) -> Found<'b, 'p>
     requires { EndsWith block.now at.now }
     ensures { AnswersEnd block.now at.now (segments left.now) result }
@@ -121,8 +124,8 @@ fn found_at<'b, 'p>(block: &[u8], at: &'b [u8], left: &'p str) -> Found<'b, 'p>
     }
 }
 
-/// How far the path leads in bytes of which `check_slice` said that they are a block. No memory is
-/// taken.
+/// Returns how far the path leads in a block. `check_slice` must have accepted the block. It
+/// allocates nothing.
 pub fn find_judged<'b, 'p>(block: &'b [u8], path: &'p str) -> Found<'b, 'p>
     requires { (t : Tree) × IsBlock block.now t }
     ensures { IsFoundIn block.now (segments path.now) result }
@@ -131,7 +134,8 @@ pub fn find_judged<'b, 'p>(block: &'b [u8], path: &'p str) -> Found<'b, 'p>
     found_at(block, at, left)
 }
 
-/// How far the path leads in the block, which is judged whole. No memory is taken.
+/// Returns how far the path leads in the block. It validates the whole block, and allocates
+/// nothing.
 pub fn find_in_block<'b, 'p>(
     block: &'b [u8],
     path: &'p str,
@@ -143,8 +147,9 @@ pub fn find_in_block<'b, 'p>(
     Ok(find_judged(block, path))
 }
 
-/// The item of the block to which the path leads, if it leads to one; a link is an item, and nothing
-/// is in it. The block is judged whole, and no memory is taken.
+/// Returns the item of the block to which the path leads, or `None` if it leads to none. A link is
+/// an item, and the path does not go on inside it. The whole block is validated, and nothing is
+/// allocated.
 ///
 /// ```rust
 /// let Some(item) = find_slice(b"\xa1\x61a\x82\x01\x17", "a/1")? else {
@@ -167,9 +172,9 @@ pub fn find_slice<'b>(
     }
 }
 
-/// The item of the block to which the segments lead, if they lead to one. Each is taken whole: from a
-/// map to the value of that key, which may have slashes or be empty, and from a list to the item of that
-/// index. The block is judged whole, and no memory is taken.
+/// Returns the item of the block to which the segments lead, or `None` if they lead to none. Each
+/// segment is taken whole. In a map it is a key, which may have slashes or be empty; in a list it
+/// is an index. The whole block is validated, and nothing is allocated.
 ///
 /// ```rust
 /// let Some(item) = find_segments(b"\xa1\x63a/b\x82\x01\x17", &["a/b", "1"])? else {
@@ -191,8 +196,9 @@ pub fn find_segments<'b>(
     }
 }
 
-/// The last item of the block to which a front of the path leads, and the path that is left there: at
-/// a link it goes on in another block. The block is judged whole, and no memory is taken.
+/// Follows the path in the block as far as it leads. Returns the last item reached, and the rest of
+/// the path: if the item is a link, the path may go on in another block. The whole block is
+/// validated, and nothing is allocated.
 pub fn follow_slice<'b, 'p>(
     block: &'b [u8],
     path: &'p str,

@@ -1,4 +1,4 @@
-//! Paths in data: what stands in a block under `a/0/b`.
+//! Paths in data: finds the item of a block under a path, such as `a/0/b`.
 #![tactic(auto)]
 
 mod find;

@@ -1,4 +1,4 @@
-//! One segment of a path: the part of an item to which it leads.
+//! One step of a path: the part of an item to which a segment leads.
 
 ghost use Rattle.std.specs.Prelude.{◌≡◌, ◌↔◌, ◌≤◌, ◌<◌, ◌^◌, length, IsTrue, List, ℕ, MatchOption, IfSome};
 ghost use Rattle.ipld_tree.specs.Tree.{text};
@@ -10,7 +10,8 @@ use dagcbor_core::split_head;
 use dagcbor_items::{behind_item, behind_items};
 use ipld_tree::comes_before;
 
-/// The item of the index of so many that begin here.
+/// Returns the bytes from the item with this index onwards. `count` items begin here. `None` if the
+/// index is not below `count`.
 fn item_at(bytes: &[u8], count: u64, index: u64) -> Option<&[u8]>
     ensures found { FindsItem (λ s. s.now) bytes.now count index result }
     ensures within { IfSome result (λ s. EndsWith bytes.now s.now) }
@@ -21,7 +22,7 @@ fn item_at(bytes: &[u8], count: u64, index: u64) -> Option<&[u8]>
     behind_items(bytes, index)
 }
 
-/// The key at the front, and the bytes after it.
+/// Returns the text key at the front, and the bytes after it.
 fn split_key(bytes: &[u8]) -> Option<(&[u8], &[u8])>
     ensures key { (key : List ℕ) (rest : List ℕ) → IsFront bytes.now (text key) rest →
         MatchOption result ⊥ (λ p. (p.0.now ≡ key) × (p.1.now ≡ rest)) }
@@ -34,7 +35,8 @@ fn split_key(bytes: &[u8]) -> Option<(&[u8], &[u8])>
     Some(behind.split_at(count as usize))
 }
 
-/// The value of the key in so many entries that begin here, which are in the order of their keys.
+/// Returns the bytes from the value of the key onwards. `count` entries begin here, in the order of
+/// their keys. `None` if no entry has the key.
 fn value_of<'b>(bytes: &'b [u8], count: u64, key: &[u8]) -> Option<&'b [u8]>
     ensures found { FindsValue (λ s. s.now) bytes.now count key.now result }
     ensures within { IfSome result (λ s. EndsWith bytes.now s.now) }
@@ -55,7 +57,8 @@ fn value_of<'b>(bytes: &'b [u8], count: u64, key: &[u8]) -> Option<&'b [u8]>
     None
 }
 
-/// The part of the item at the front to which the segment leads.
+/// Returns the bytes from the part to which the segment leads, of the item at the front, onwards.
+/// `None` if it leads nowhere.
 pub(crate) fn part_at<'b>(bytes: &'b [u8], segment: &str) -> Option<&'b [u8]>
     ensures found { FindsPart (λ s. s.now) bytes.now segment.now result }
     ensures within { IfSome result (λ s. EndsWith bytes.now s.now) }

@@ -5,8 +5,9 @@ ghost use Rattle.std.specs.Fmt.{decimal};
 ghost use Rattle.dagcbor_paths.specs.Paths.{segments};
 ghost use Rattle.dagcbor_paths.specs.Parts.{EndsWith};
 
-/// The first segment of a path, and the path after it. Segments stand between slashes; what is
-/// empty there is none. Nothing is escaped, so no segment has a slash.
+/// Returns the first segment of a path, and the path after it. `None` if the path has no segment.
+/// Slashes separate segments, and empty pieces between slashes are skipped. Nothing is escaped, so
+/// no segment has a slash.
 pub fn next_segment(path: &str) -> Option<(&str, &str)>
     ensures first { MatchOption result (segments path.now ≡ [])
         (λ p. segments path.now ≡ p.0.now ∷ segments p.1.now) }
@@ -26,7 +27,8 @@ pub fn next_segment(path: &str) -> Option<(&str, &str)>
     }
 }
 
-/// The index that the segment is in decimal, without a sign and without zeros in front.
+/// Returns the index that the segment spells in decimal. `None` if it has a sign or leading zeros,
+/// or is not below 2^64.
 pub(crate) fn index_of(segment: &str) -> Option<u64>
     ensures { MatchOption result ((n : ℕ) → n < 2 ^ 64 → ¬ (segment.now ≡ decimal n))
         (λ n. segment.now ≡ decimal n) }

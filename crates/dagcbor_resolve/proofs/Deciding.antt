@@ -1,4 +1,4 @@
--- The blocks on the way of a path decide where it ends.
+-- The blocks on the way of a path determine where it ends.
 use Rattle.std.proofs.Common.{◌≡◌, ◌↔◌, inl, inr, arith, ℕ, zero, suc, List, [], ◌∷◌, refl, subst, Option, None, Some}
 use Rattle.ipld_tree.specs.Cid.{CidParts, cid_bytes}
 use Rattle.ipld_tree.specs.Tree.{Tree, link}
@@ -30,7 +30,7 @@ go_unique s name next also path left more g k =
     let cids : cid_bytes next ≡ cid_bytes also = cc same.0 in
     (cid_unique next also g.0 k.0 cids, same.1)
 
--- it does not go on from where it leads to something, or to nothing
+-- a path does not go on from a block in which it leads to a tree, or to none
 led_no_further : (s : Stored) (name next : CidParts) (path left : List (List ℕ)) (found : Option Tree) (x : List ℕ) → IsReadUnder s name x → LeadsInBlock x path found → LeadsOn s name path next left → ⊥
 led_no_further s name next path left found x h k g =
     no_end_at_link g.1.0 path left g.1.1 next found g.1.3 g.1.4 (subst (λ z. LeadsInBlock z path found) (read_unique s name x g.1.0 h g.1.2) k)
@@ -44,7 +44,7 @@ no_block_goes_on s name next path left v b h is none g = none_read name b g.1.0 
 no_model_goes_on : (s : Stored) (name next : CidParts) (path left : List (List ℕ)) → HasNoModelUnder s name → LeadsOn s name path next left → ⊥
 no_model_goes_on s name next path left h g = not_modelled name h.0 g.1.0 NameNotText h.3 h.4 (subst (λ z. IsReadAs name z g.1.0) (bytes_unique s name g.1.2.0 h.0 g.1.2.1 h.1) g.1.2.3)
 
--- nor from where it ends
+-- a path does not go on from the block at which it ends
 pub ends_no_further : (s : Stored) (name : CidParts) (path : List (List ℕ)) (end : End) → EndsAs s name path end → ((n : ℕ) → IsEndlessAfter n end) → GoesOver s name path []
 ends_no_further s name path (ends.Item kind place end) h never next left g = led_no_further s name next path left (Some h.2) h.0 h.3 (h.1, h.4, h.5) g
 ends_no_further s name path (ends.NoSuchPath more) h never next left g = led_no_further s name next path left None h.0 h.3 (h.1, h.2, segments more.now, h.4, h.5, h.6) g

@@ -10,7 +10,7 @@ use Rattle.dagcbor_resolve.specs.Resolving.{LeadsOn, GoesOver, AreOnTheWay, AreO
 
 -- ---- the way
 
--- the path went over these names, and goes on from this one, where these segments are left
+-- the path went over these names, and goes on from this one with these segments left
 abbrev pub WentTo : Stored → CidParts → List (List ℕ) → List CidParts → CidParts → List (List ℕ) → Type 0
 WentTo stored root path names name left = (more : List CidParts) → GoesOver stored name left more
     → AreOnTheWay stored root path (names ++ name ∷ more)
@@ -27,12 +27,12 @@ went_to_end stored root name path left names after went is over = subst (AreOnTh
 
 -- ---- each once
 
--- of these names each was gathered once, and all were seen
+-- each of these names was gathered once, and all were seen
 pub record Gathered (done once : List CidParts) (seen : CidSet) : Type 0 where
   pub all : AreOnceEach done once
   pub known : (q : CidParts) → Among q (members seen) ↔ Among q done
 
--- what stands in a list with one more after: it is that one, or stands before
+-- a member of a list with one more at its end is that one, or was in the list before
 last_or_before : (done before behind : List CidParts) (name q : CidParts) → done ++ name ∷ [] ≡ before ++ q ∷ behind
     → ((done ≡ before) × (name ≡ q)) ⊎ ((less : List CidParts) × (done ≡ before ++ q ∷ less))
 last_or_before [] [] behind name q is = let e : name ≡ q = cc is in inl (refl, e)

@@ -1,4 +1,4 @@
--- As what bytes are read.
+-- The block as which bytes are read.
 use Rattle.std.proofs.Common.{◌≡◌, inl, inr, List, ℕ, arith, sym, ap, ◌∙◌, subst}
 use Rattle.ipld_tree.specs.Cid.{CidParts}
 use Rattle.ipld_tree.specs.Tree.{Tree}
@@ -31,9 +31,9 @@ read_as_one name b x y (inl h) (inr k) = absurd (omega (arith, h.0, k.0))
 read_as_one name b x y (inr h) (inl k) = absurd (omega (arith, h.0, k.0))
 read_as_one name b x y (inr h) (inr k) = one_block x y k.1.0 (subst (IsBlock x) (model_unique b h.1.0 k.1.0 h.1.1 k.1.1) h.1.2) k.1.2
 
--- ---- what is not read
+-- ---- bytes that are not read
 
--- what is refused is not read
+-- bytes with a verdict of no block are not read as a block
 pub none_read : (name : CidParts) (b block : List ℕ) (t : Tree) (v : Verdict) → IsVerified (name, b) → IsReadAs name b block → IsBlock block t → IsVerdict (name, b) v → IsNoBlock v → ⊥
 none_read name b block t (Block kind) h r k v none = none
 none_read name b block t Node h r k v none = none
@@ -54,7 +54,7 @@ pub no_node_of : (b : List ℕ) (e : ModelError) (t : Tree) → HasNoModel b e �
 no_node_of b (NoNode e) t none h = none.0 (h.0, h.1)
 no_node_of b NameNotText t none h = none.2 (subst HasTextNames (node_unique b h.0 none.0 h.1 none.1) h.2)
 
--- nor is what has no data model
+-- a node without a data model is not read as a block
 pub not_modelled : (name : CidParts) (b block : List ℕ) (e : ModelError) → IsDagPb name → HasNoModel b e → IsReadAs name b block → ⊥
 not_modelled name b block e is none (inl r) = absurd (omega (arith, is, r.0))
 not_modelled name b block e is none (inr r) = no_node_of b e r.1.0 none r.1.1

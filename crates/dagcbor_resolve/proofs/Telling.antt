@@ -18,7 +18,7 @@ use Rattle.dagcbor_resolve.specs.declared.resolution.End.TheVariants as ends
 use Rattle.dagcbor_resolve.specs.declared.resolution.Resolved.{Resolved}
 use Rattle.dagcbor_resolve.proofs.Reading.{read_as_one}
 
--- what is known where a path ended at an item
+-- the facts if a path ended at an item
 pub record EndsAtItem (stored : Stored) (root : CidParts) (path : List (List ℕ)) (r : Resolved) (place end : ℕ) : Type 0 where
   pub count : ℕ
   pub block : List ℕ
@@ -64,7 +64,7 @@ bytes_unique stored name x y (inl h) (inr k) = absurd (let differ : Some x ≡ N
 bytes_unique stored name x y (inr h) (inl k) = absurd (let differ : Some y ≡ None = sym k ∙ h.0 in cc)
 bytes_unique stored name x y (inr h) (inr k) = sym h.2 ∙ k.2
 
--- under a name that is not by the identity, where none are stored
+-- no bytes are under a name that is not by the identity, if none are stored
 pub none_under : (stored : Stored) (name : CidParts) → stored name ≡ None → ¬ IsInline name → (b : List ℕ) → ¬ AreBytesOf stored name b
 none_under stored name none not b (inl h) = let differ : Some b ≡ None = sym h ∙ none in cc
 none_under stored name none not b (inr h) = not h.1
@@ -72,7 +72,7 @@ none_under stored name none not b (inr h) = not h.1
 pub read_unique : (stored : Stored) (name : CidParts) (x y : List ℕ) → IsReadUnder stored name x → IsReadUnder stored name y → x ≡ y
 read_unique stored name x y h k = read_as_one name k.0 x y (subst (λ z. IsReadAs name z x) (bytes_unique stored name h.0 k.0 h.1 k.1) h.3) k.3
 
--- ---- what stands in a block
+-- ---- parts of a block
 
 -- it is within the bytes
 pub ends_within : (b part : List ℕ) (place end : ℕ) → StandAt b place part → end ≡ place + length part → end ≤ length b
@@ -89,9 +89,9 @@ between b part front behind before mid place end h e is long cut short =
 pub split_whole : {s front back : List ℕ} (n : ℕ) → IsSplitAt s n front back → s ≡ front ++ back
 split_whole {s} {front} {back} n cut = sym (ap (λ x. x ++ back) cut.1 ∙ ap (λ x. take n s ++ x) cut.2 ∙ take-append-drop n s)
 
--- ---- what is given
+-- ---- the bytes of an item
 
--- the bytes of the name give what stands in the block as which they are read
+-- the bytes are those between the places, of the block as which the bytes of the name are read
 abbrev pub GivesPartIn : {A : Type 0} → (A → List ℕ) → CidParts → List ℕ → ℕ → ℕ → Option A → Type 0
 GivesPartIn bytes_of name b place end result = (block : List ℕ) → IsReadAs name b block → GivesBetween bytes_of block place end result
 

@@ -5,7 +5,7 @@ use Rattle.ipld_links.specs.Reaching.{Stored}
 use Rattle.dagcbor_resolve.specs.Resolving.{LeadsOn, ResolvesIn, IsEndlessAfter, Resolves}
 use Rattle.dagcbor_resolve.specs.declared.resolution.Resolved.{Resolved}
 
--- links led over so many blocks from the root to this one, where these segments are left
+-- links led over `count` blocks from the root to this one, and these segments are left
 abbrev pub Led : Stored → CidParts → List (List ℕ) → ℕ → CidParts → List (List ℕ) → Type 0
 Led stored root path count name left = (n : ℕ) (r : Resolved) → ResolvesIn n stored name left r
     → (m : ℕ) × (m ≡ count + n) × ResolvesIn m stored root path r

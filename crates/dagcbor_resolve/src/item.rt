@@ -1,4 +1,4 @@
-//! The bytes of the item at which a path ended.
+//! Reads the bytes of the item at which a path ended.
 
 ghost use Rattle.std.specs.Prelude.{◌≡◌, ◌⊎◌, List, ℕ, IfOk, MatchResult};
 ghost use Rattle.ipld_tree.specs.Cid.{CidParts};
@@ -15,7 +15,7 @@ use ipld_tree::Cid;
 use std::alloc::{AllocError, Global};
 use std::collections::BTreeMap;
 
-/// Bytes of DAG-CBOR: those that are stored; or ones that were made, of a node, or of a name.
+/// Bytes of DAG-CBOR: those of a stored block, or made from a node of DAG-PB or from a name.
 #[derive(Debug, Drop)]
 pub enum Readable<'b> {
     Stored(&'b [u8]),
@@ -23,7 +23,7 @@ pub enum Readable<'b> {
 }
 
 impl Readable<'_> {
-    /// The bytes.
+    /// Returns the bytes.
     pub fn bytes(&self) -> &[u8]
         ensures { result.now ≡ readable_bytes self.now }
     {
@@ -34,7 +34,7 @@ impl Readable<'_> {
     }
 }
 
-/// The bytes of the block between the places.
+/// Returns the bytes of the block from `place` to `end`.
 fn part_between<'b>(block: &'b [u8], place: usize, end: usize) -> Option<&'b [u8]>
     ensures { GivesBetween (λ s. s.now) block.now place end result }
 {
@@ -43,7 +43,7 @@ fn part_between<'b>(block: &'b [u8], place: usize, end: usize) -> Option<&'b [u8
     Some(part)
 }
 
-/// A copy of them.
+/// Returns a copy of the bytes of the block from `place` to `end`.
 fn copy_between(
     alloc: Global,
     block: &[u8],
@@ -58,7 +58,7 @@ fn copy_between(
     }
 }
 
-/// The bytes between the places of the block as which the node is read.
+/// Returns the bytes from `place` to `end` of the block of the node's data model.
 fn part_of_node(
     alloc: Global,
     node: &[u8],
@@ -74,7 +74,8 @@ fn part_of_node(
     }
 }
 
-/// A copy of the bytes between the places of the block as which the bytes of the name are read.
+/// Returns a copy of the bytes from `place` to `end` of the block under the name. For DAG-PB that
+/// is the block of the node's data model.
 fn copy_in(
     alloc: Global,
     name: &Cid,
@@ -92,8 +93,8 @@ fn copy_in(
     }
 }
 
-/// The bytes between the places of the block as which the bytes of the name are read. Those of a block of
-/// DAG-CBOR are lent.
+/// Returns the bytes from `place` to `end` of the block under the name. For DAG-PB that is the
+/// block of the node's data model; else the bytes are lent.
 fn part_in<'b>(
     alloc: Global,
     name: &Cid,
@@ -119,8 +120,9 @@ fn part_in<'b>(
     }
 }
 
-/// The bytes of the item at which a path over the blocks of the map ended, which are a block; none
-/// where it ended otherwise. Those of an item in a stored block of DAG-CBOR are lent, and take no memory.
+/// Returns the bytes of the item at which a path over the blocks of the map ended. They are a
+/// block. `None` if the path ended otherwise. If the item is in a stored block of DAG-CBOR, the
+/// bytes are lent, and nothing is allocated.
 pub fn item_bytes<'b>(
     alloc: Global,
     blocks: &'b BTreeMap<Cid, Vec<u8>>,

@@ -1,22 +1,22 @@
-//! Laws of the definitions, each the contract of a function that does nothing.
+//! Laws of the definitions. Each is the contract of a function that does nothing.
 
 ghost use Rattle.dagcbor_resolve.specs.Laws.{PathsBind, NothingIsLedTo, WaysDecideEnds, WaysDecideItems};
 
-/// A root and a path bind what is found, and that nothing is: two stores lead to one answer, or two
-/// different byte strings of one SHA-256 are at hand.
+/// A root and a path determine the item that is found, and also that nothing is: over two stores
+/// the answers are the same, or two different byte strings have the same SHA-256.
 #[tactic(auto, using(crate::proofs::Binding::paths_bind))]
 pub fn paths_bind()
     ensures { PathsBind }
 {}
 
-/// A path that ends where its next segment leads nowhere leads to none, so that `paths_bind` holds of
-/// that answer too.
+/// If a path ends where its next segment leads nowhere, `paths_bind` holds of that answer too.
 pub fn nothing_is_led_to()
     ensures { NothingIsLedTo }
 {}
 
-/// The blocks on the way of a path decide where it ends and what it leads to: who has these alone has
-/// the same answers as over the whole store, absence and a missing block included.
+/// The blocks on the way of a path determine where it ends and what it leads to. A store of these
+/// blocks alone gives the same answers as the whole store, even if the path leads nowhere or a
+/// block is missing.
 pub fn ways_decide()
     ensures ends { WaysDecideEnds }
     ensures items { WaysDecideItems }

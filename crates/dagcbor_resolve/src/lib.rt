@@ -1,4 +1,4 @@
-//! Resolving a path over blocks: `CID/a/0/b`, in whatever the blocks are stored.
+//! Resolves a path over blocks, such as `CID/a/0/b`, whatever stores the blocks.
 #![tactic(auto)]
 
 mod item;

@@ -1,4 +1,4 @@
-//! A path over blocks, from a root.
+//! Resolves a path over blocks, from a root.
 
 ghost use Rattle.std.specs.Prelude.{◌≡◌, List, ℕ, option_map, MatchResult};
 ghost use Rattle.ipld_tree.specs.Cid.{CidParts};
@@ -22,48 +22,53 @@ use std::collections::BTreeMap;
 /// How a path ends at a block.
 #[derive(Debug, Drop)]
 pub enum End<'p> {
-    /// At an item of this kind, which begins at the first place of the block, and ends at the second. The
-    /// places of an item in a node of DAG-PB are those in the block of DAG-CBOR of its data model.
+    /// The path leads to an item of this kind. The numbers are the bytes of the block at which it
+    /// begins and ends, counted from 0. In a node of DAG-PB, they count in the block of its data
+    /// model.
     Item(Kind, usize, usize),
-    /// At an item that is no link, from which the first segment of this path leads nowhere.
+    /// The path leads to an item that is not a link. From there the first segment of this rest of
+    /// the path leads nowhere.
     NoSuchPath(&'p str),
-    /// No bytes are stored under the name.
+    /// No block is stored under the name.
     NotHeld,
-    /// The bytes are not those that the name says, or they are no block of DAG-CBOR and no node of DAG-PB.
+    /// The bytes are not those that the name says, or they are neither a block of DAG-CBOR nor a
+    /// node of DAG-PB.
     NoBlock(Verdict),
-    /// The bytes are a node of DAG-PB without a data model: the name of a link is not UTF-8.
+    /// The bytes are a node of DAG-PB without a data model, because the name of a link is not
+    /// UTF-8.
     NoModel,
-    /// 2^64 - 1 blocks were passed, which no store has but one whose links go in a circle.
+    /// 2^64 - 1 blocks were passed. That takes a store whose links form a cycle.
     Endless,
 }
 
-/// Where a path goes on.
+/// The block at which a path goes on.
 #[derive(Debug, Drop)]
 pub struct Next<'p> {
     /// The name of the block.
     pub block: Cid,
-    /// The path that is left at it.
+    /// The rest of the path, from this block.
     pub path: &'p str,
 }
 
-/// What one block says of a path.
+/// The outcome of one block: the path ends at it, or goes on at another.
 #[derive(Debug, Drop)]
 pub enum Step<'p> {
     Ends(End<'p>),
     GoesOn(Next<'p>),
 }
 
-/// Where a path ended.
+/// The block at which a path ended, and how.
 #[derive(Debug, Drop)]
 pub struct Resolved<'p> {
     /// The name of the block.
     pub block: Cid,
-    /// The path that was left in it.
+    /// The rest of the path in that block.
     pub path: &'p str,
     pub end: End<'p>,
 }
 
-/// The bytes under the name, of which these are stored: a name by the identity holds its block itself.
+/// Returns the bytes under the name. `stored` are those stored; if there are none, a name by the
+/// identity holds its block itself.
 pub fn bytes_under<'b>(name: &'b Cid, stored: Option<&'b [u8]>) -> Option<&'b [u8]>
     ensures { (all : Stored) → all name.now ≡ option_map (λ b. b.now) stored.entry
         → FindsBytes (λ b. b.now) all name.now result }
@@ -75,7 +80,7 @@ pub fn bytes_under<'b>(name: &'b Cid, stored: Option<&'b [u8]>) -> Option<&'b [u
     }
 }
 
-/// What a block says of the path, as which the bytes under a name are read.
+/// Follows the path in the block that is read under a name.
 fn step_at<'p>(block: &[u8], path: &'p str) -> Step<'p>
     requires { (t : Tree) × IsBlock block.now t }
     ensures { (all : Stored) (name : CidParts) → IsReadUnder all name block.now
@@ -93,7 +98,7 @@ fn step_at<'p>(block: &[u8], path: &'p str) -> Step<'p>
     }
 }
 
-/// What a node of DAG-PB says of the path.
+/// Follows the path in the data model of a node of DAG-PB.
 fn step_in_node<'p>(alloc: Global, node: &[u8], path: &'p str) -> Result<Step<'p>, AllocError>
     ensures { MatchResult result
         (λ r. (all : Stored) (name : CidParts) → AreBytesOf all name node.now
@@ -107,7 +112,7 @@ fn step_in_node<'p>(alloc: Global, node: &[u8], path: &'p str) -> Result<Step<'p
     }
 }
 
-/// What the block of the name says, of which these bytes are under it.
+/// Verifies these bytes against the name, and follows the path in them.
 fn step_in<'p>(
     alloc: Global,
     name: &Cid,
@@ -131,9 +136,10 @@ fn step_in<'p>(
     }
 }
 
-/// What one block says of the path, of which these bytes are stored under its name. The path goes on
-/// where a part of it leads to a link; at its end a link is an item. Who looks each name up that is
-/// answered can store the blocks in anything. Only a node of DAG-PB takes memory, for its data model.
+/// Follows the path in one block. `stored` are the bytes stored under its name. The path goes on if
+/// a first part of it leads to a link; a link at its end is an item. The caller looks up each name
+/// that is returned, so anything can store the blocks. It allocates only for the data model of a
+/// node of DAG-PB.
 pub fn resolve_step<'p>(
     alloc: Global,
     name: &Cid,
@@ -152,7 +158,7 @@ pub fn resolve_step<'p>(
     }
 }
 
-/// Where the path ends, from the block of the root, over the blocks of the map.
+/// Resolves the path over the blocks of the map, from the block of the root.
 pub fn resolve<'p>(
     alloc: Global,
     blocks: &BTreeMap<Cid, Vec<u8>>,

@@ -11,17 +11,17 @@ use ipld_tree::Cid;
 use std::alloc::{AllocError, Global};
 use std::collections::BTreeMap;
 
-/// Where a path ended, and over which blocks it went.
+/// Where a path ended, and the blocks that it went over.
 #[derive(Debug, Drop)]
 pub struct Way<'p> {
-    /// The names of the blocks, in the order of the path, the root first. Under the last one there may
-    /// be none.
+    /// The names of the blocks, in the order of the path, the root first. There may be no block
+    /// under the last name.
     pub names: Vec<Cid>,
     pub resolved: Resolved<'p>,
 }
 
-/// Where the path ends, from the block of the root, over the blocks of the map, and the names on its
-/// way.
+/// Resolves the path over the blocks of the map, from the block of the root, and lists the names on
+/// its way.
 pub fn resolve_way<'p>(
     alloc: Global,
     blocks: &BTreeMap<Cid, Vec<u8>>,
@@ -36,7 +36,7 @@ pub fn resolve_way<'p>(
     let mut names = Vec::new(alloc);
     let mut block = *root;
     let mut left = path;
-    // Each turn takes memory for a name, and no memory holds as many.
+    // Each turn allocates for a name, and no memory holds 2^64 - 1 names.
     for _count in 0..u64::MAX {
         names.push(block)?;
         match resolve_step(alloc, &block, stored_bytes(blocks, &block), left) {
@@ -60,7 +60,7 @@ pub fn resolve_way<'p>(
     Err(AllocError)
 }
 
-/// The names, each where it first stands.
+/// Returns each of the names once, in the order in which they first come.
 pub fn each_once(alloc: Global, names: &[Cid]) -> Result<Vec<Cid>, AllocError>
     ensures { IfOk result (λ v. AreOnceEach names.now v.items) }
 {

@@ -73,7 +73,7 @@ other_kept s n name c is found differs (inl e) = absurd (differs (some_same name
 
 -- ---- one name more
 
--- the places tell what they told
+-- the places are unchanged
 abbrev pub SamePlaces : HeldNames → HeldNames → Type 0
 SamePlaces old new = (n : ℕ) → get nat_cmp new.places n ≡ get nat_cmp old.places n
 
@@ -184,7 +184,7 @@ row_joined c n old new valid is none names here elsewhere others = (valid, λ q.
             let met : is_at (nat_cmp n) (front q.digest) ≡ true = ap (λ m. is_at (nat_cmp n) m) (sym mine) ∙ ap is_eq (number_equal n) in
             absurd (cc (sym met ∙ t))
 
--- ---- a set that what is not held joins
+-- ---- a set that gains a CID that is not held
 
 pub unheld_added : {E : Type 0} (r : Result (Unit {0}) E) (c : CidParts) (held : HeldNames) (old new : CidSet) → (IsHeldName c held → ⊥) → OnOk r (AddsCid c old new) → OnOk r (AddsUnheld c held old new)
 unheld_added (Err e) c held old new free a = tt

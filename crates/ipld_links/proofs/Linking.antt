@@ -40,7 +40,7 @@ pub unknown_unlinked : (s : NamedBlock) → IsVerdict s LinksNotRead → IsUnlin
 unknown_unlinked s h links (inl (c, k)) = h.1.1 (inl c)
 unknown_unlinked s h links (inr (c, k)) = h.1.1 (inr c)
 
--- ---- what is sound
+-- ---- sound blocks
 
 pub linked_read : (codec : ℕ) (b : List ℕ) (links : List (List ℕ)) → HasLinks codec b links → IsReadCodec codec
 linked_read codec b links (inl h) = inl h.0

@@ -30,7 +30,7 @@ pub none_of : {X : Type 0} (xs : List X) → length xs ≡ 0 → xs ≡ []
 none_of [] none = refl
 none_of (x ∷ xs) none = absurd (omega (arith, none))
 
--- a refusal comes only where there are some
+-- a refusal comes only if the list is not empty
 pub some_of : {X A E : Type 0} (xs : List X) (r : Result A E) → (length xs ≡ 0 → ⊥) → OnErr r (xs ≢ [])
 some_of xs (Ok v) some = tt
 some_of [] (Err e) some = absurd (some refl)
@@ -121,7 +121,7 @@ among_any q (k ∷ ks) (inr h) = by (is_at (cid_cmp q) k) (among_any q ks h)
 
 -- ---- one CID more
 
--- of each CID, whether it is a member, is told by the old set, save of this one
+-- the new set has this CID or not, as `is` says, and each other CID as the old set has it
 abbrev Changes : Bool → CidParts → CidSet → CidSet → Type 0
 Changes is c old new = (q : CidParts) → set.contains cid_cmp new.cids q ≡ cond (is_at (cid_cmp c) q) is (set.contains cid_cmp old.cids q)
 

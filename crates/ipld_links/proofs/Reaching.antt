@@ -121,7 +121,7 @@ walk_on stored root name seen before waiting found lost waits m h = record {
     back q (inl s) = inl s
     back q (inr w) = inr (subst (Among q) (sym waits) (push_among q waiting name (inl w)))
 
--- of the names seen, those that are so were listed; and of one more
+-- one more name is seen, of which P does not hold, and the list stays
 lists_same : (P : CidParts → Type 0) (name : CidParts) (seen more listed new : List CidParts) → ((q : CidParts) → Among q more ↔ (Among q seen ⊎ (q ≡ name))) → (P name → ⊥) → new ≡ listed → Lists (λ q. Among q seen × P q) listed → Lists (λ q. Among q more × P q) new
 lists_same P name seen more listed new sees other same h = record {
   all = λ q. (
@@ -174,7 +174,7 @@ module _ (stored : Stored) (root name : CidParts) (block : Option (List ℕ)) (a
     | inr n ↦ absurd (n.1 l.1.0 l.1.1)
   ]
 
-  -- what holds of each name that was covered holds of each that is now, if it does of the links
+  -- a property of each name covered before holds of each covered now, if it holds of the links
   all_covered : (P : CidParts → Type 0) → ((q : CidParts) → Covers seen (waiting ++ name ∷ []) q → P q) → ((q : CidParts) → Among q (reverse links) → P q) → (q : CidParts) → Covers more later q → P q
   all_covered P old new q (inl m) = elim ((sees q).0 m) [ inl o ↦ old q (inl o) | inr e ↦ subst P (sym e) (old name here) ]
   all_covered P old new q (inr w) = elim (among_append q waiting (reverse links) (subst (Among q) pushes.1 w)) [
@@ -291,7 +291,7 @@ map_some : {X Y : Type 0} (f : X → Y) (o : Option X) → is_some (option_map f
 map_some f None = refl
 map_some f (Some x) = refl
 
--- what the next walk has, after a name was seen, sorted out, and its links pushed
+-- the next walk, after a name was seen and listed, and its links were pushed
 module _ (name : CidParts) (block : Option (List ℕ)) (old seen mid : Walk) (later : Vec CidParts Global) (links : List CidParts) where
   abbrev visited_walk : Walk
   visited_walk = record { alloc = mid.alloc; seen = mid.seen; waiting = later; found = mid.found; lost = mid.lost }
@@ -332,7 +332,7 @@ pub nothing_known : (stored : Stored) (name : CidParts) → stored name ≡ None
 nothing_known stored name free other b (inl s) = let clash : None ≡ Some b = sym free ∙ s in absurd (cc clash)
 nothing_known stored name free other b (inr s) = absurd (other s.1)
 
--- what holds of the names seen holds of one more
+-- a property of the names seen before holds of those seen now, if it holds of the new one
 pub all_seen : (P : CidParts → Type 0) (name : CidParts) (old new : Walk) → ((q : CidParts) → Among q old.seen.keys → P q) → P name → SeesAlso name old new → (q : CidParts) → Among q new.seen.keys → P q
 all_seen P name old new h is sees q m = elim ((sees q).0 m) [ inl o ↦ h q o | inr e ↦ subst P (sym e) is ]
 

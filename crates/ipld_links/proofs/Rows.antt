@@ -19,7 +19,7 @@ use Rattle.dagcbor_decode.specs.Rows.{HoldsLinks}
 pub block_row : (b : List ℕ) (t : Tree) → IsBlock b t → HoldsLinks b (links_of t)
 block_row b t h = record { trees = t ∷ []; whole = ((h.0.well_formed, h.0.spellable), tt); is = h.0.is ∙ sym (append-nil (spelling t)); are = sym (append-nil (links_of t)) }
 
--- what stands in a row in a block
+-- a block is a row of its own parts
 pub links_row : (codec : ℕ) (b : List ℕ) (links : List (List ℕ)) → HasLinks codec b links → HoldsLinksAs codec b links
 links_row codec b links (inl (c, (t, block, e))) = inl (c, subst (HoldsLinks b) (sym e) (block_row b t block))
 links_row codec b links (inr (c, (node, h, e))) = let k = row_of_node b node h in inr (c, record { fields = k.0; row = k.1; are = e ∙ k.2 })
@@ -45,7 +45,7 @@ pub is_item_codec : (codec : ℕ) (b : List ℕ) (links : List (List ℕ)) → c
 is_item_codec codec b links other (inl h) = h.0
 is_item_codec codec b links other (inr h) = absurd (other h.0)
 
--- the links of a block, these before what is left of it, and those in that
+-- the links of a block: those found so far, and those in the bytes that are left
 pub record LinksSoFar (codec : ℕ) (b : List ℕ) (found : List CidParts) (rest : List ℕ) : Type 0 where
   pub links : List (List ℕ)
   pub block : HasLinks codec b links

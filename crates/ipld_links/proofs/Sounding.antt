@@ -23,7 +23,7 @@ by_sha256 : (s : NamedBlock) → s.0.hash_code ≡ 0x12 → IsVerified s → IsB
 by_sha256 s by (inl h) = h
 by_sha256 s by (inr h) = absurd (omega (arith, by, h.0))
 
--- what the verdict says of a block under a name by SHA-256 that is kept
+-- a block of DAG-CBOR under a name by SHA-256 is sound, if its verdict says so
 pub sound_read : (s : NamedBlock) (kind : _) → s.0.hash_code ≡ 0x12 → IsVerdict s (Block kind) → IsSound s
 sound_read s kind by h = let v = by_sha256 s by h.0 in record { by_sha256 = v.0; digest = v.1; read = λ dag. (h.1.1.0, h.1.1.1); node = λ pb. absurd (omega (arith, pb, h.1.0)) }
 
@@ -50,7 +50,7 @@ pub unsound_bytes : (s : NamedBlock) → s.0.hash_code ≡ 0x12 → IsVerdict s 
 unsound_bytes s by (inl h, not) = (h, λ e. not (inl (h, e)))
 unsound_bytes s by (inr h, not) = absurd (omega (arith, by, h))
 
--- ---- what holds of both
+-- ---- DAG-CBOR and DAG-PB
 
 -- a sound block is not refused
 pub never_unsound : (s : NamedBlock) (e : Unsound) → IsSound s → IsUnsound s e → ⊥

@@ -17,7 +17,7 @@ pub verified_testable : (s : NamedBlock) → IsVerified s → IsTestable s.0
 verified_testable s (inl h) = inl h.0
 verified_testable s (inr h) = inr h.0
 
--- a block is told by the judge
+-- the test accepts exactly the blocks
 pub item_tested : {E : Type 0} (b : List ℕ) (r : Result Kind (DecodeError E)) (ok : Bool) → IfOk r (λ kind. (t : Tree) × IsBlock b t × (kind ≡ kind_of t)) → answered r ≡ answer (decode b) → ok ≡ is_ok r → IsTrue ok ↔ HasBlock b
 item_tested b (Ok kind) ok k e is = (λ yes. (k.0, k.1), λ block. is)
 item_tested b (Err e) ok k d is = (λ yes. absurd (cc (yes, is)), λ block. absurd (refused_no_block b e block.0 (sym d) block.1))

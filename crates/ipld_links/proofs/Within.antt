@@ -60,11 +60,11 @@ within_cid : (n : ℕ) (start form : List ℕ) → IsCid start → IsLinkWithin 
 within_cid zero start form c e = subst IsCid (sym e) c
 within_cid (suc n) start form c w = within_cid n w.1 form (block_links_are_cids w.2.0.codec w.2.0.digest w.0 w.1 w.2.4 w.3) w.4
 
--- what is reached from the links of a block is a CID
+-- a binary form that is reached from the links of a block is that of a CID
 pub reached_cid : (codec : ℕ) (b : List ℕ) (links : List (List ℕ)) (form : List ℕ) → HasLinks codec b links → IsReached form links → IsCid form
 reached_cid codec b links form h r = within_cid r.1 r.0 form (block_links_are_cids codec b links r.0 h r.2) r.3
 
--- what is reached from CIDs is one
+-- names that are reached from CIDs are CIDs
 pub reached_of_cids : (cs : List CidParts) (form : List ℕ) → AllByRecursion AreCidParts cs → IsReached form (forms cs) → IsCid form
 reached_of_cids cs form all r = within_cid r.1 r.0 form (by cs all r.2) r.3
   where
@@ -79,7 +79,7 @@ not_inline form q p other e i = other (subst IsInline (cid_unique i.0 q i.1 p (s
 
 -- ---- one link
 
--- of one CID the binary forms are the same
+-- CIDs that are equal have the same binary form
 own : (c d : CidParts) → AreCidParts c → AreCidParts d → cid_bytes c ≡ cid_bytes d → c ≡ d
 own c d p q e = cid_unique c d p q e
 
@@ -190,7 +190,7 @@ all_done cids i held old new all h = subst (λ cs. AddsAll cs held old new) (ap 
 
 -- ---- the links of a block
 
--- these links before what is left of a block were added
+-- the names reached from the links before the rest of a block were added
 abbrev pub Adding : ℕ → List ℕ → HeldNames → CidSet → CidSet → List ℕ → Type 0
 Adding codec b held old now rest = (found : List CidParts) × LinksSoFar codec b found rest × AddsAll found held old now
 
@@ -209,7 +209,7 @@ all_adding codec b rest held old new a none = (a.1.links, a.1.block, subst (λ l
 
 -- ---- measures
 
--- a digest that stands in a block is shorter than the block
+-- a digest inside a block is shorter than the block
 pub digest_inside : (b rest behind : List ℕ) (c : CidParts) → length rest ≤ length b → length (cid_bytes c) + length behind < length rest → length c.digest < length b
 digest_inside b rest behind c fits shorter = omega (arith, digest_le, fits, shorter)
   where
@@ -239,7 +239,7 @@ names_of codec b items held start new free none h is =
     let reached = reached_only held start new h.0 free none h.2 in
     (h.0, h.1, λ q. subst (λ ms. Among q ms ↔ IsReachedName q h.0) (sym is) (reached q))
 
--- what has no forms is empty
+-- a list without binary forms is empty
 pub no_forms : (cids : List CidParts) → forms cids ≡ [] → cids ≡ []
 no_forms [] e = refl
 no_forms (c ∷ cids) e = absurd (cc e)

@@ -1,4 +1,4 @@
--- Which blocks a store keeps under their names.
+-- The blocks that a store keeps under their names.
 use Rattle.std.specs.Prelude.{◌≡◌, ◌≢◌}
 use Rattle.sha2.specs.Sha256.{sha256}
 use Rattle.dagcbor_decode.specs.Verdicts.{IsRefusedAt}
@@ -11,15 +11,15 @@ use Rattle.ipld_links.specs.Verdicts.{IsDagCbor, IsDagPb}
 use Rattle.ipld_links.specs.declared.sound.Unsound.{Unsound}
 use Rattle.ipld_links.specs.declared.sound.Unsound.TheVariants.{OtherHash, OtherBytes, NoBlock, NoNode}
 
--- the name is by SHA-256, and the bytes are those that it names; where it says that they are DAG-CBOR
--- or DAG-PB, they are a block of it
+-- the name is by SHA-256, and its digest is that of the bytes; if its codec
+-- is DAG-CBOR or DAG-PB, they are a block of it
 pub record IsSound (s : NamedBlock) : Type 0 where
   pub by_sha256 : IsBySha256 s.0
   pub digest : s.0.digest ≡ sha256 s.1
   pub read : IsDagCbor s.0 → HasBlock s.1
   pub node : IsDagPb s.0 → HasNode s.1
 
--- why bytes are not sound under a name; of bytes that are no block, and at which byte
+-- why a store does not keep the bytes under the name: the cause, and the byte of it
 abbrev pub IsUnsound : NamedBlock → Unsound → Type 0
 IsUnsound s OtherHash = ¬ IsBySha256 s.0
 IsUnsound s OtherBytes = IsBySha256 s.0 × (s.0.digest ≢ sha256 s.1)

@@ -1,4 +1,4 @@
-//! Blocks of the codecs whose links are read.
+//! Validates blocks of the codecs whose links are read.
 
 ghost use Rattle.std.specs.Prelude.{◌↔◌, IsTrue, MatchBool};
 ghost use Rattle.dag_pb.specs.Node.{HasNode};
@@ -8,29 +8,29 @@ use crate::name::{DAG_CBOR, DAG_PB};
 use dag_pb::check_node;
 use dagcbor_decode::check_slice;
 
-/// Whether the bytes are a block of DAG-CBOR.
+/// Returns whether the bytes are a block of DAG-CBOR.
 pub fn is_item(bytes: &[u8]) -> bool
     ensures { IsTrue result ↔ HasBlock bytes.now }
 {
     check_slice(bytes).is_ok()
 }
 
-/// Whether the bytes are a block of DAG-PB.
+/// Returns whether the bytes are a block of DAG-PB.
 pub fn is_node(bytes: &[u8]) -> bool
     ensures { IsTrue result ↔ HasNode bytes.now }
 {
     check_node(bytes).is_ok()
 }
 
-/// Whether the codec is one in whose blocks links are read: DAG-CBOR or DAG-PB.
+/// Returns whether links are read in blocks of the codec: it is DAG-CBOR or DAG-PB.
 pub fn is_read_codec(codec: u64) -> bool
     ensures { MatchBool result (IsReadCodec codec) (¬ IsReadCodec codec) }
 {
     codec == DAG_CBOR || codec == DAG_PB
 }
 
-/// Whether the codec is DAG-CBOR or DAG-PB, and the bytes are a block of it: then links are read in
-/// them.
+/// Returns whether the codec is DAG-CBOR or DAG-PB, and the bytes are a block of it. Links are read
+/// only in such blocks.
 pub fn is_block_of(codec: u64, bytes: &[u8]) -> bool
     ensures { IsTrue result ↔ IsBlockOf codec bytes.now }
 {

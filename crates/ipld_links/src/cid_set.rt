@@ -15,14 +15,14 @@ use ipld_tree::Cid;
 use std::alloc::{AllocError, Global};
 use std::collections::BTreeSet;
 
-/// CIDs, each once.
+/// A set of CIDs.
 #[derive(Drop)]
 pub struct CidSet {
     cids: BTreeSet<Cid>,
 }
 
 impl CidSet {
-    /// A set that has none.
+    /// Returns the empty set.
     pub fn new(alloc: Global) -> CidSet
         ensures { members result ≡ [] }
     {
@@ -31,24 +31,25 @@ impl CidSet {
         }
     }
 
-    /// Adds the CID. After a refusal nothing is known of the set.
+    /// Adds the CID. After a refusal the contents of the set are unspecified.
     pub fn add(&mut self, cid: Cid) -> Result<(), AllocError>
         ensures { OnOk result (AddsCid cid self.old self.new) }
     {
-        // What is known of a CID comes with its version.
+        // The contract of `version` tells the proof what holds of a CID.
         let _version = cid.version();
         self.cids.insert(cid)?;
         Ok(())
     }
 
-    /// Whether it has the CID.
+    /// Returns whether the set has the CID.
     pub fn contains(&self, cid: &Cid) -> bool
         ensures { IsTrue result ↔ Among cid.now (members self.now) }
     {
         self.cids.contains(cid)
     }
 
-    /// Adds the links of a block, and those within them, that are not held.
+    /// Adds the links of a block that are not in `held`. A link whose name holds its block itself
+    /// is replaced by the links in that block.
     #[cycle(links)]
     pub fn add_links(
         &mut self,
@@ -67,7 +68,8 @@ impl CidSet {
         Ok(())
     }
 
-    /// Adds the links, and those within them, that are not held.
+    /// Adds the links that are not in `held`. A link whose name holds its block itself is replaced
+    /// by the links in that block.
     pub fn add_all(&mut self, links: &[Cid], held: &HeldNames) -> Result<(), AllocError>
         ensures added { OnOk result (AddsAll links.now held.now self.old self.new) }
         ensures memory { OnErr result (links.now ≢ []) }
@@ -78,12 +80,13 @@ impl CidSet {
         Ok(())
     }
 
-    /// Adds the link, if it is not held; or those within it, where its name holds a block itself.
+    /// Adds the link, if it is not in `held`. If its name holds a block itself, adds the links in
+    /// that block instead.
     #[cycle(links)]
     fn add_link(&mut self, link: &Cid, held: &HeldNames) -> Result<(), AllocError>
         ensures { OnOk result (AddsAll (link.now ∷ []) held.now self.old self.new) }
     {
-        // What is known of a CID comes with its version.
+        // The contract of `version` tells the proof what holds of a CID.
         let _version = link.version();
         if link.hash_code() != IDENTITY {
             return self.add_unheld(link, held);
@@ -94,18 +97,18 @@ impl CidSet {
         self.add_links(link.codec(), link.digest(), held)
     }
 
-    /// Takes the CID out, if it has it.
+    /// Removes the CID, if the set has it.
     pub fn remove(&mut self, cid: &Cid)
         ensures { RemovesCid cid.now self.old self.new }
     {
         self.cids.remove(cid);
     }
 
-    /// Adds the CID, if it is not held.
+    /// Adds the CID, if it is not in `held`.
     fn add_unheld(&mut self, cid: &Cid, held: &HeldNames) -> Result<(), AllocError>
         ensures { OnOk result (AddsUnheld cid.now held.now self.old self.new) }
     {
-        // What is known of a CID comes with its version.
+        // The contract of `version` tells the proof what holds of a CID.
         let _version = cid.version();
         if held.contains(cid) {
             return Ok(());
@@ -113,7 +116,7 @@ impl CidSet {
         self.add(*cid)
     }
 
-    /// The members, in their order.
+    /// Returns the members, in the order of CIDs.
     pub fn into_vec(self, alloc: Global) -> Result<Vec<Cid>, AllocError>
         ensures sorted { IfOk result (λ v. IsStrictlySortedBy cid_cmp v.items) }
         ensures all { IfOk result (λ v. v.items ≡ members self) }
@@ -125,7 +128,7 @@ impl CidSet {
         self.list_members(alloc)
     }
 
-    /// What `into_vec` answers, of whatever members.
+    /// Does what `into_vec` does, of an empty set too.
     fn list_members(self, alloc: Global) -> Result<Vec<Cid>, AllocError>
         ensures sorted { IfOk result (λ v. IsStrictlySortedBy cid_cmp v.items) }
         ensures all { IfOk result (λ v. v.items ≡ members self) }

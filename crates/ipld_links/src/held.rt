@@ -1,4 +1,4 @@
-//! Names under which blocks are held.
+//! The names of the stored blocks.
 
 ghost use Rattle.std.specs.Prelude.{◌≡◌, ◌↔◌, ℕ, false, None, Some, IsTrue, slice_get};
 ghost use Rattle.std.specs.Prelude.{MatchOption, IfOk, OnOk};
@@ -12,19 +12,19 @@ use ipld_tree::Cid;
 use std::alloc::{AllocError, Global};
 use std::collections::BTreeMap;
 
-/// Names, each once, in a row: a small tree of numbers, which stays in the cache, tells where the
-/// name with a given front stands. What has the front of another name is in a sorted set, so that no
-/// choice of names makes a look-up slow.
+/// A set of names, fast to look up. Most names are in a list. A small tree of numbers, which stays
+/// in the cache, maps the first bytes of a digest to a place in that list. A name whose first bytes
+/// are those of another is in a sorted set, so that no choice of names makes a look-up slow.
 #[derive(Drop)]
 pub struct HeldNames {
     names: Vec<Cid>,
-    /// Where the name with this front stands.
+    /// The place in the list of the name with these first bytes.
     places: BTreeMap<u64, usize>,
     others: CidSet,
 }
 
 impl HeldNames {
-    /// No names.
+    /// Returns the empty set.
     pub fn new(alloc: Global) -> HeldNames
         ensures { HoldsNone result }
     {
@@ -35,7 +35,7 @@ impl HeldNames {
         }
     }
 
-    /// Whether the name is one of them.
+    /// Returns whether the set has the name.
     pub fn contains(&self, cid: &Cid) -> bool
         ensures { IsTrue result ↔ IsHeldName cid.now self.now }
     {
@@ -45,11 +45,11 @@ impl HeldNames {
         }
     }
 
-    /// Adds the name. After a refusal nothing is known of the names.
+    /// Adds the name. After a refusal the contents of the set are unspecified.
     pub fn add(&mut self, cid: Cid) -> Result<(), AllocError>
         ensures { OnOk result (AddsName cid self.old self.new) }
     {
-        // What is known of a CID comes with its version.
+        // The contract of `version` tells the proof what holds of a CID.
         let _version = cid.version();
         let end = self.names.len();
         let place = place_at(&mut self.places, front_of(&cid), end)?;
@@ -63,7 +63,7 @@ impl HeldNames {
         self.others.add(cid)
     }
 
-    /// Whether this name stands at the place in the row.
+    /// Returns whether this name is at the place in the list.
     fn has_at(&self, place: usize, cid: &Cid) -> bool
         ensures { IsTrue result → slice_get self.now.names.items place ≡ Some cid.now }
     {
@@ -73,7 +73,7 @@ impl HeldNames {
         }
     }
 
-    /// The name in the row with this front.
+    /// Returns the name in the list with these first bytes, as `front_of` reads them.
     fn named(&self, number: u64) -> Option<&Cid>
         ensures { MatchOption result
             (name_in_row self.now number ≡ None)
@@ -86,7 +86,7 @@ impl HeldNames {
     }
 }
 
-/// Whether both are one name. Their order is not asked for, which takes longer.
+/// Returns whether both are the same name. It is faster than comparing their order.
 fn is_same(first: &Cid, second: &Cid) -> bool
     ensures { IsTrue result ↔ (first.now ≡ second.now) }
 {
@@ -96,7 +96,7 @@ fn is_same(first: &Cid, second: &Cid) -> bool
         && first.version() == second.version()
 }
 
-/// The place under the number: the one that stands there, and else this one, which is put there.
+/// Returns the place under the number. If there is none, puts `end` there, and returns it.
 fn place_at(places: &mut BTreeMap<u64, usize>, number: u64, end: usize) -> Result<usize, AllocError>
     ensures place { IfOk result (λ p. p ≡ unwrap_or (get nat_cmp places.old number) end) }
     ensures there { IfOk result (λ p. get nat_cmp places.new number ≡ Some p) }
@@ -109,7 +109,7 @@ fn place_at(places: &mut BTreeMap<u64, usize>, number: u64, end: usize) -> Resul
     }
 }
 
-/// The first eight bytes of the digest as a number, the lowest first; 0 where there are fewer.
+/// Returns the first eight bytes of the digest as a little-endian number, or 0 if it has fewer.
 fn front_of(cid: &Cid) -> u64
     ensures { result ≡ front cid.now.digest }
 {

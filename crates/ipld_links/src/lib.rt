@@ -1,4 +1,4 @@
-//! Names of blocks, what is said of a block under a name, and where links lead.
+//! Names of blocks, verdicts on blocks under a name, and the blocks that links lead to.
 #![tactic(auto)]
 
 mod block;

@@ -1,4 +1,4 @@
-//! The links of blocks that were judged: nothing of these is tested again.
+//! The links of validated blocks: nothing is validated again.
 
 ghost use Rattle.std.specs.Prelude.{◌≡◌, ◌+◌, ◌<◌, List, ℕ, [], ◌∷◌, length, IfSome, IfOk, MatchOption};
 ghost use Rattle.ipld_tree.specs.Cid.{cid_bytes};
@@ -10,7 +10,7 @@ use crate::name::DAG_PB;
 use ipld_tree::Cid;
 use std::alloc::{AllocError, Global};
 
-/// The first link of fields of a node in a row, and the bytes after it.
+/// Returns the first link among the fields of a node, and the bytes after it.
 fn next_field_link(fields: &[u8]) -> Option<(Cid, &[u8])>
     requires { (links : List (List ℕ)) × HoldsFieldLinks fields.now links }
     ensures link { (links : List (List ℕ)) → HoldsFieldLinks fields.now links
@@ -25,7 +25,7 @@ fn next_field_link(fields: &[u8]) -> Option<(Cid, &[u8])>
     }
 }
 
-/// The first link of what stands in a row in blocks of the codec, and the bytes after it.
+/// Returns the first link in the parts of a block of the codec, and the bytes after it.
 pub(crate) fn next_link(codec: u64, row: &[u8]) -> Option<(Cid, &[u8])>
     requires { (links : List (List ℕ)) × HoldsLinksAs codec row.now links }
     ensures link { (links : List (List ℕ)) → HoldsLinksAs codec row.now links
@@ -41,7 +41,7 @@ pub(crate) fn next_link(codec: u64, row: &[u8]) -> Option<(Cid, &[u8])>
     }
 }
 
-/// The links of a block, which are refused for want of memory alone.
+/// Returns the links of a block, in its order. It is refused only if memory runs out.
 pub fn links_of_block(alloc: Global, codec: u64, block: &[u8]) -> Result<Vec<Cid>, AllocError>
     requires { IsBlockOf codec block.now }
     ensures { IfOk result (λ v. HasLinks codec block.now (forms v.items)) }

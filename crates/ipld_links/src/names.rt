@@ -16,9 +16,9 @@ use ipld_tree::Cid;
 use std::alloc::{AllocError, Global};
 use std::convert::Infallible;
 
-/// The names that the links of the first item of the bytes lead to, each once, in their order. A
-/// name by the identity holds its block itself: in place of it stand the names that the links in
-/// that block lead to.
+/// Returns the names that the links of the first item lead to, each once, in the order of CIDs. A
+/// name by the identity holds its block itself: the names that the links of that block lead to take
+/// its place.
 pub fn names_from_slice(alloc: Global, bytes: &[u8]) -> Result<Vec<Cid>, DecodeError<Infallible>>
     ensures names { IfOk result (λ v. AreFirstNames bytes.now v.items) }
     ensures order { IfOk result (λ v. IsStrictlySortedBy cid_cmp v.items) }
@@ -38,7 +38,7 @@ pub fn names_from_slice(alloc: Global, bytes: &[u8]) -> Result<Vec<Cid>, DecodeE
     }
 }
 
-/// The names that the links of the block of the codec lead to, as `names_from_slice` answers them.
+/// Returns the names that the links of a block of the codec lead to, as `names_from_slice` does.
 pub fn names_of_block(alloc: Global, codec: u64, block: &[u8]) -> Result<Vec<Cid>, AllocError>
     requires { IsBlockOf codec block.now }
     ensures names { IfOk result (λ v. AreNamesOf codec block.now v.items) }

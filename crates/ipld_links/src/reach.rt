@@ -1,4 +1,4 @@
-//! A walk along links, whatever the blocks are stored in.
+//! A walk along links, whatever stores the blocks.
 
 ghost use Rattle.std.specs.Prelude.{◌≡◌, [], None, option_map, is_some, IfOk, OnOk, MatchOption, MatchResult};
 ghost use Rattle.ipld_tree.specs.Cid.{CidParts, AreCidParts};
@@ -17,11 +17,11 @@ use ipld_tree::Cid;
 use std::alloc::{AllocError, Global};
 use std::collections::{BTreeMap, BTreeSet};
 
-/// A walk along links from a root, depth first, the links of a block as they stand. Its user looks
-/// each name up that `next` answers, and hands what is stored under it to `visit`, so that it does
-/// not matter in what the blocks are stored. A name by the identity holds its block itself: where
-/// nothing is stored under it, the links in that block are followed, and the name is neither found
-/// nor lost.
+/// A walk along links from a root, depth first, taking the links of a block in their order. The
+/// caller looks up each name that `next` returns, and passes the bytes stored under it to `visit`,
+/// so anything can store the blocks. A name by the identity holds its block itself: if nothing is
+/// stored under it, the walk follows the links in that block, and lists the name neither as found
+/// nor as lost.
 #[derive(Drop)]
 pub struct Walk {
     alloc: Global,
@@ -29,22 +29,23 @@ pub struct Walk {
     seen: BTreeSet<Cid>,
     /// The names to be visited, the next one last.
     waiting: Vec<Cid>,
-    /// Those of the names visited under which bytes are stored, in that order.
+    /// The visited names under which bytes are stored, in the order of the walk.
     found: Vec<Cid>,
-    /// Those under which none are.
+    /// The visited names under which nothing is stored, in the order of the walk.
     lost: Vec<Cid>,
 }
 
-/// Where a walk led.
+/// The names that a walk visited.
 #[derive(Drop)]
 pub struct Reached {
     /// The names of the stored blocks, in the order of the walk, the root first.
     pub found: Vec<Cid>,
-    /// The names under which nothing is stored, in that order.
+    /// The names under which nothing is stored, in the order of the walk.
     pub lost: Vec<Cid>,
 }
 
-/// The links of the block of the codec that the bytes are, if they are one.
+/// Returns the links of the bytes as a block of the codec, or no links if they are not a block of
+/// it.
 fn links_in(alloc: Global, codec: u64, bytes: &[u8]) -> Result<Vec<Cid>, AllocError>
     ensures { IfOk result (λ v. AreLinksOf (HasLinks codec bytes.now) v.items) }
 {
@@ -55,7 +56,7 @@ fn links_in(alloc: Global, codec: u64, bytes: &[u8]) -> Result<Vec<Cid>, AllocEr
     }
 }
 
-/// The links of the block under the name, of which these bytes are stored.
+/// Returns the links of the block under the name. `stored` are the bytes stored under it.
 fn links_under(alloc: Global, name: &Cid, stored: Option<&[u8]>) -> Result<Vec<Cid>, AllocError>
     ensures { (all : Stored) → all name.now ≡ option_map (λ b. b.now) stored.entry
         → IfOk result (λ v. AreLinksOf (NamesLinks all name.now) v.items) }
@@ -66,7 +67,7 @@ fn links_under(alloc: Global, name: &Cid, stored: Option<&[u8]>) -> Result<Vec<C
     }
 }
 
-/// The links of the block that the name holds itself, if it holds one.
+/// Returns the links of the block that the name holds itself, or no links if it holds none.
 fn links_in_name(alloc: Global, name: &Cid) -> Result<Vec<Cid>, AllocError>
     ensures { IfOk result
         (λ v. AreLinksOf (λ all. IsInline name.now × HasLinks name.now.codec name.now.digest all)
@@ -78,8 +79,8 @@ fn links_in_name(alloc: Global, name: &Cid) -> Result<Vec<Cid>, AllocError>
     links_in(alloc, name.codec(), name.digest())
 }
 
-/// The verdict on the bytes under the name, of which these are stored, if it is not known what links
-/// they have. None where that is known, or where there are no bytes.
+/// Returns the verdict on the bytes under the name, if their links are not known. `None` if they
+/// are, or if there are no bytes. `stored` are the bytes stored under the name.
 pub fn hidden_under(name: &Cid, stored: Option<&[u8]>) -> Option<Verdict>
     ensures { (all : Stored) → all name.now ≡ option_map (λ b. b.now) stored.entry
         → MatchOption result (KnowsLinks all name.now) (HidesLinksUnder all name.now) }
@@ -90,7 +91,7 @@ pub fn hidden_under(name: &Cid, stored: Option<&[u8]>) -> Option<Verdict>
     }
 }
 
-/// The verdict on the block that the name holds itself, if it holds one.
+/// Returns the verdict on the block that the name holds itself, if its links are not known.
 fn hidden_in_name(name: &Cid) -> Option<Verdict>
     ensures { (all : Stored) → all name.now ≡ None
         → MatchOption result (KnowsLinks all name.now) (HidesLinksUnder all name.now) }
@@ -101,12 +102,12 @@ fn hidden_in_name(name: &Cid) -> Option<Verdict>
     hidden_links(name.codec(), name.digest())
 }
 
-/// Pushes the links.
+/// Appends the links to the list.
 fn push_all(list: &mut Vec<Cid>, links: &[Cid]) -> Result<(), AllocError>
     ensures { OnOk result (PushesAll links.now list.old.items list.new.items) }
 {
     for link in links {
-        // What is known of a CID comes with its version.
+        // The contract of `version` tells the proof what holds of a CID.
         let _version = link.version();
         list.push(*link)?;
     }
@@ -114,12 +115,12 @@ fn push_all(list: &mut Vec<Cid>, links: &[Cid]) -> Result<(), AllocError>
 }
 
 impl Walk {
-    /// A walk from the root.
+    /// Begins a walk from the root.
     pub fn new(alloc: Global, root: &Cid) -> Result<Walk, AllocError>
         ensures walks { IfOk result (λ walk. (stored : Stored) → Walks stored root.now walk) }
         ensures unseen { IfOk result (λ walk. walk.seen.keys ≡ []) }
     {
-        // What is known of a CID comes with its version.
+        // The contract of `version` tells the proof what holds of a CID.
         let _version = root.version();
         let mut waiting = Vec::new(alloc);
         waiting.push(*root)?;
@@ -132,7 +133,7 @@ impl Walk {
         })
     }
 
-    /// The name to be visited next, which was not visited. None where the walk is over.
+    /// Returns the next name to visit, which was not visited before. `None` if the walk is over.
     pub fn next(&mut self) -> Option<Cid>
         ensures next { GoesOn self.old result self.new }
         ensures kept { (self.new.seen ≡ self.old.seen) × (self.new.found ≡ self.old.found)
@@ -146,8 +147,8 @@ impl Walk {
         None
     }
 
-    /// Visits the name that `next` answered, under which these bytes are stored. After a refusal
-    /// nothing is known of the walk.
+    /// Visits the name that `next` returned. `stored` are the bytes stored under it. After a
+    /// refusal the state of the walk is unspecified.
     pub fn visit(&mut self, name: Cid, stored: Option<&[u8]>) -> Result<(), AllocError>
         ensures visits { OnOk result
             (Visits name (option_map (λ b. b.now) stored.entry) self.old self.new) }
@@ -160,17 +161,17 @@ impl Walk {
         push_all(&mut self.waiting, &links)
     }
 
-    /// The name is one of those that were seen.
+    /// Adds the name to those that were seen.
     fn see(&mut self, name: Cid) -> Result<(), AllocError>
         ensures { OnOk result (Sees name self.old self.new) }
     {
-        // What is known of a CID comes with its version.
+        // The contract of `version` tells the proof what holds of a CID.
         let _version = name.version();
         self.seen.insert(name)?;
         Ok(())
     }
 
-    /// The name is found, or lost.
+    /// Lists the name as found or as lost.
     fn sort_out(&mut self, name: Cid, is_there: bool) -> Result<(), AllocError>
         ensures { OnOk result (SortsOut name is_there self.old self.new) }
     {
@@ -182,7 +183,7 @@ impl Walk {
         Ok(())
     }
 
-    /// Where it led.
+    /// Returns the names that the walk found, and those that it lost.
     pub fn into_reached(self) -> Reached
         ensures found { result.found ≡ self.found }
         ensures lost { result.lost ≡ self.lost }
@@ -192,7 +193,7 @@ impl Walk {
     }
 }
 
-/// The bytes that the map has under the name.
+/// Returns the bytes that the map has under the name.
 pub fn stored_bytes<'a>(blocks: &'a BTreeMap<Cid, Vec<u8>>, name: &Cid) -> Option<&'a [u8]>
     ensures { option_map (λ b. b.now) result ≡ stored_in blocks.now name.now }
 {
@@ -202,7 +203,7 @@ pub fn stored_bytes<'a>(blocks: &'a BTreeMap<Cid, Vec<u8>>, name: &Cid) -> Optio
     }
 }
 
-/// Where a walk from the root leads within the map.
+/// Returns where a walk from the root leads within the map.
 pub fn reach_from(
     alloc: Global,
     blocks: &BTreeMap<Cid, Vec<u8>>,
@@ -213,7 +214,7 @@ pub fn reach_from(
     ensures lost { IfOk result (λ r. ListsLost (stored_in blocks.now) root.now r.lost.items) }
 {
     let mut walk = Walk::new(alloc, root)?;
-    // Each turn takes memory for a name that was not seen, of which no memory holds as many.
+    // Each turn allocates for a name not seen before, and no memory holds 2^64 - 1 names.
     for _count in 0..u64::MAX {
         let Some(name) = walk.next() else {
             return Ok(walk.into_reached());
@@ -223,8 +224,8 @@ pub fn reach_from(
     Err(AllocError)
 }
 
-/// Where a walk from the root leads within the map; or the first name on the way of which it is not
-/// known what links it has, and the verdict on the bytes under it.
+/// Returns where a walk from the root leads within the map. If the links of a block on the way are
+/// not known, returns the first such name, and the verdict on the bytes under it.
 pub fn reach_known(
     alloc: Global,
     blocks: &BTreeMap<Cid, Vec<u8>>,
@@ -235,7 +236,7 @@ pub fn reach_known(
         (IsHiddenFrom (stored_in blocks.now) root.now)) }
 {
     let mut walk = Walk::new(alloc, root)?;
-    // Each turn takes memory for a name that was not seen, of which no memory holds as many.
+    // Each turn allocates for a name not seen before, and no memory holds 2^64 - 1 names.
     for _count in 0..u64::MAX {
         let Some(name) = walk.next() else {
             return Ok(Ok(walk.into_reached()));

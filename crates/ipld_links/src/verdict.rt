@@ -1,4 +1,4 @@
-//! What is said of a block under a name.
+//! Verdicts on blocks under a name.
 
 ghost use Rattle.std.specs.Prelude.{◌≡◌, ◌≢◌, ◌↔◌, length, IsTrue, MatchOption};
 ghost use Rattle.sha2.specs.Sha256.{sha256};
@@ -14,34 +14,31 @@ use ipld_tree::Cid;
 use sha2::{Digest, Sha256};
 use std::convert::Infallible;
 
-/// The length of a SHA-256.
+/// The length of a SHA-256, in bytes.
 const SHA2_256_LENGTH: usize = 32;
 
-/// What is said of a block under a name.
+/// The verdict on a block under a name.
 #[derive(Debug, Drop)]
 pub enum Verdict {
-    /// The block is the one that is named, and DAG-CBOR of this kind.
+    /// The block is verified, and is DAG-CBOR of this kind.
     Block(Kind),
-    /// The block is the one that is named, of the codec DAG-CBOR, and is none.
+    /// The block is verified, but not DAG-CBOR, though its name says so, for this cause.
     Refused(DecodeError<Infallible>),
-    /// The block is the one that is named, and a node of DAG-PB.
+    /// The block is verified, and is a node of DAG-PB.
     Node,
-    /// The block is the one that is named, of the codec DAG-PB, and is none.
+    /// The block is verified, but not DAG-PB, though its name says so, for this cause.
     NoNode(PbError),
     /// The digest of the block is not that of its name.
     OtherBytes,
-    /// The block is the one that is named. It is raw, has no links, and was not read.
+    /// The block is verified. It is raw, has no links, and was not read.
     NotRead,
-    /// The block is the one that is named. It is of a codec whose blocks can have links, which are not
-    /// read here.
+    /// The block is verified. Blocks of its codec can have links, which this library does not read.
     LinksNotRead,
-    /// The name is by another hash function than SHA-256 and the identity, or by a SHA-256 of
-    /// another length than 32 bytes. The block was not read.
+    /// The name is neither by a SHA-256 of 32 bytes nor by the identity. The block was not read.
     Unverified,
 }
 
-/// Whether the block is the one that the CID names, and whether it is DAG-CBOR or DAG-PB where the CID
-/// says so.
+/// Verifies the block against the CID. If the CID says that it is DAG-CBOR or DAG-PB, validates it.
 #[tactic(auto, using(crate::proofs::Judging::verdict_of))]
 pub fn verify(cid: &Cid, block: &[u8]) -> Verdict
     ensures { IsVerdict (cid.now, block.now) result }
@@ -55,7 +52,7 @@ pub fn verify(cid: &Cid, block: &[u8]) -> Verdict
     verdict_on(cid.codec(), block)
 }
 
-/// What is said of the bytes as a block of the codec, whatever they are named.
+/// Returns the verdict on the bytes as a block of the codec, whatever their name.
 pub fn verdict_on(codec: u64, block: &[u8]) -> Verdict
     ensures { IsVerdictOn codec block.now result }
 {
@@ -67,7 +64,7 @@ pub fn verdict_on(codec: u64, block: &[u8]) -> Verdict
     }
 }
 
-/// Of a block of DAG-CBOR.
+/// Returns the verdict on the bytes as a block of DAG-CBOR.
 fn verdict_on_item(block: &[u8]) -> Verdict
     ensures { IsVerdictOn 0x71 block.now result }
 {
@@ -77,7 +74,7 @@ fn verdict_on_item(block: &[u8]) -> Verdict
     }
 }
 
-/// Of a block of DAG-PB.
+/// Returns the verdict on the bytes as a block of DAG-PB.
 fn verdict_on_node(block: &[u8]) -> Verdict
     ensures { IsVerdictOn 0x70 block.now result }
 {
@@ -87,8 +84,8 @@ fn verdict_on_node(block: &[u8]) -> Verdict
     }
 }
 
-/// The verdict on bytes of the codec of which it is not known what links they have. None where that is
-/// known.
+/// Returns the verdict on the bytes as a block of the codec, if their links are not known. `None`
+/// if they are.
 pub fn hidden_links(codec: u64, block: &[u8]) -> Option<Verdict>
     ensures { MatchOption result (HasKnownLinks codec block.now) (HidesLinks codec block.now) }
 {
@@ -98,7 +95,8 @@ pub fn hidden_links(codec: u64, block: &[u8]) -> Option<Verdict>
     Some(verdict_on(codec, block))
 }
 
-/// Whether the digest in the CID is that of the block. None where that can't be told here.
+/// Returns whether the digest in the CID is that of the block. `None` if that cannot be told: the
+/// CID is neither by a SHA-256 of 32 bytes nor by the identity.
 fn names(cid: &Cid, block: &[u8]) -> Option<bool>
     ensures { MatchOption result (¬ IsTestable cid.now)
         (λ is_named. IsTestable cid.now × (IsTrue is_named ↔ IsVerified (cid.now, block.now))) }
@@ -110,7 +108,7 @@ fn names(cid: &Cid, block: &[u8]) -> Option<bool>
     }
 }
 
-/// Whether the digest is the SHA-256 of the block. None for one of another length.
+/// Returns whether the digest is the SHA-256 of the block. `None` if it has not 32 bytes.
 fn is_sha256(digest: &[u8], block: &[u8]) -> Option<bool>
     ensures { MatchOption result (length digest.now ≢ 32)
         (λ same. (length digest.now ≡ 32) × (IsTrue same ↔ (digest.now ≡ sha256 block.now))) }

@@ -1,4 +1,4 @@
--- A walk over sizes, none of which is 0 so far.
+-- A walk over sizes that has met no 0 so far.
 use Rattle.std.proofs.Common.{◌≡◌, ◌≢◌, ℕ, zero, suc, List, [], ◌∷◌, true, false, refl, ap, ◌∙◌}
 use Rattle.unix_fs.specs.UnixFs.{sizes_of}
 use Rattle.unix_fs.specs.Files.{has_empty}

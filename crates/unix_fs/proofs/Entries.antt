@@ -7,7 +7,7 @@ use Rattle.dag_pb.proofs.Orders.{node_links_in}
 use Rattle.unix_fs.specs.Reading.{HasRow}
 use Rattle.unix_fs.specs.Directories.{has_name, link_named}
 
--- what is left has the first link of the name, if there is one
+-- the links that are left have the first link with the name, if there is one
 pub record IsSearchedTo (name block links : List ℕ) : Type 0 where
   pub row : HasRow links
   pub same : (all : List Field) → BeginsWithFields block all [] → (more : List Field) × BeginsWithFields links more []
@@ -16,7 +16,7 @@ pub record IsSearchedTo (name block links : List ℕ) : Type 0 where
 pub none_searched : (name block : List ℕ) → HasRow block → IsSearchedTo name block block
 none_searched name block row = record { row = row; same = λ all h. (all, h, refl) }
 
--- what `next_link` says of a link
+-- the answer of `next_link` is this link
 abbrev GivesLink : List ℕ → LinkParts → List ℕ → Type 0
 GivesLink links link behind = (row : List Field) → BeginsWithFields links row []
     → (more : List Field) × BeginsWithFields behind more [] × (links_in row ≡ link ∷ links_in more)

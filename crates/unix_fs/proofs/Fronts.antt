@@ -1,4 +1,4 @@
--- What stands at the front of bytes.
+-- The parts at the front of bytes.
 use Rattle.std.proofs.Common.{◌≡◌, ◌⊎◌, inl, inr, Bool, true, false, ℕ, zero, suc, ◌+◌, ◌-◌, ◌*◌, ◌%◌, ◌^◌, ◌==◌, ◌<◌, ◌≤◌, List, [], ◌∷◌, length, length-drop, take, drop, nat_lt, if◌then◌else◌, Result, Ok, Err, refl, sym, ap, ◌∙◌, subst, arith}
 use Rattle.std.proofs.lemmas.Bool.{cases_lt}
 use Rattle.std.proofs.lemmas.Bool.Decides.{nat_tests}
@@ -49,9 +49,9 @@ group_below (suc more) group n fit high below = omega (arith, subst (λ k. n < 2
 pub fits_below : (more n : ℕ) → more ≤ 9 → n < 2 * 128 ^ more → n < 2 ^ 64
 fits_below more n few below = omega (arith, below, pow-le-pow_right {n = 128} (omega arith) {i = more} {j = 9} few)
 
--- ---- what is left is shorter
+-- ---- the rest is shorter
 
--- where both parts answer
+-- if two reads succeed one after the other, each of them does
 pub after_split : {A B : Type 0} (r : Front A) (f : A → List ℕ → Front B) (b : B) (left : List ℕ) → after r f ≡ Ok (b, left) → (a : A) × (rest : List ℕ) × (r ≡ Ok (a, rest)) × (f a rest ≡ Ok (b, left))
 after_split (Ok (a, rest)) f b left e = (a, rest, refl, e)
 after_split (Err cause) f b left e = absurd (cc e)

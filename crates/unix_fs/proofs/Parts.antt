@@ -1,4 +1,4 @@
--- What stands in one block of a file.
+-- Reading one block of a file.
 use Rattle.std.proofs.Common.{◌≡◌, ◌≢◌, ℕ, suc, ◌+◌, ◌-◌, ◌<◌, List, [], ◌∷◌, ◌++◌, length, sum, Option, None, Some, Ok, Err, true, false, refl, sym, ap, ◌∙◌, subst, arith, append-nil}
 use Rattle.unix_fs.specs.declared.error.UnixFsError.{UnixFsError}
 use Rattle.unix_fs.specs.UnixFs.{UnixFsParts, size_in, sizes_of, unix_fs_of}
@@ -118,7 +118,7 @@ other_file_size w b parts n file other blocks held =
     ∙ ap (of_size w.size) (of_other parts.file_size (or_nothing parts.content) (below_links blocks w b parts) (sum parts.block_sizes) (linked_length (bytes_under blocks (w.depth - 1)) (cids_of b) parts.block_sizes) other)
     ∙ none_sized w.size
 
--- what was announced in the node is right
+-- the size announced in the node is right
 size_opened : (w : Asked) (b : List ℕ) (parts : UnixFsParts) → IsFileNode w b parts → is_file parts.kind ≡ true → IsTotal parts.file_size (length (or_nothing parts.content) + sum parts.block_sizes) → (blocks : List ℕ → Option (List ℕ)) → blocks w.cid ≡ Some b → asked_bytes blocks w ≡ of_size w.size (joined (Some (or_nothing parts.content)) (below_links blocks w b parts))
 size_opened w b parts n file total blocks held =
     parts_opened w b parts n file blocks held
@@ -158,7 +158,7 @@ total_along size s t n e h = subst (λ x. IsTotal size (length x + n)) e h
 pub leaf_long : (size : Option ℕ) (b : List ℕ) → IsTotal size (length b) → IsTotal size (length b + sum (sizes_of []))
 leaf_long size b h = let same : length b ≡ length b + sum (sizes_of []) = omega (arith, no_sizes) in subst (IsTotal size) same h
 
--- why there is no part, where links and sizes do not pair
+-- why there is no part, if links and sizes do not pair
 pub unpaired : (e : FileError) (w : Asked) (b : List ℕ) (parts : UnixFsParts) (pairs : Option (List Asked)) → IsFileNode w b parts → (pairs ≡ None → HasNoPart w b × (length (cids_of b) ≢ length parts.block_sizes)) → IsNoPairing e (cids_of b) pairs → IsNoPart e w b
 unpaired OutOfMemory w b parts pairs n none h = ((n.codec, h), tt)
 unpaired WrongLinks w b parts pairs n none h = let k = none h in ((parts, n, k.1), k.0)

@@ -7,7 +7,7 @@ use Rattle.unix_fs.specs.Fields.{Front, Value, field_of, found_with, found_from,
 use Rattle.unix_fs.specs.UnixFs.{SaidParts, nothing_said, with_field, then_rest, said_next, or_at, said_from, said_of}
 use Rattle.unix_fs.proofs.Fronts.{after_split, ok_rest, no_ok, field_shorter}
 
--- ---- what was said
+-- ---- the values of fields
 
 then_split : (rest : List ℕ) (r : Result SaidParts UnixFsCause) (next : SaidParts) (left : List ℕ) → then_rest rest r ≡ Ok (next, left) → rest ≡ left
 then_split rest (Ok said) next left e = ok_rest said next rest left e
@@ -33,7 +33,7 @@ said_enough message (suc m) (suc n) said (x ∷ b) h k =
     or_at_same message (x ∷ b) (said_next said (x ∷ b)) (said_from message m) (said_from message n)
     (λ next rest e. let s = said_shorter said next (x ∷ b) rest e in said_enough message m n next rest (omega (arith, s, h)) (omega (arith, s, k)))
 
--- what was said before the rest
+-- the values of the fields before the rest
 pub record IsReadTo (message : List ℕ) (said : SaidParts) (rest : List ℕ) : Type 0 where
   pub same : said_of message ≡ said_from message (length rest) said rest
   pub within : length rest ≤ length message
@@ -71,7 +71,7 @@ unfolding said_from
 not_read message said [] cause r there e = absurd (there refl)
 not_read message said (x ∷ b) cause r there e = r.same ∙ ap (λ q. or_at message (x ∷ b) q (said_from message (length b))) e
 
--- ---- what stands in fields
+-- ---- picking from fields
 
 pub no_field : field_of [] ≡ Err Truncated
 unfolding field_of varint_of groups_of
@@ -105,7 +105,7 @@ unfolding found_in found_from
 none_found pick [] cause e = refl
 none_found pick (x ∷ b) cause e = ap (λ r. found_with pick r (found_from pick (length b))) e
 
--- ---- a walk over fields: what is picked of the rest is what is picked of all
+-- ---- a walk over fields: the rest gives the same as all fields
 
 pub record HasSame {A : Type 0} (pick : ℕ × Value → List A) (fields rest : List ℕ) : Type 0 where
   pub same : found_in pick fields ≡ found_in pick rest

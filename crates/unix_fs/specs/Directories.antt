@@ -10,20 +10,20 @@ use Rattle.unix_fs.specs.UnixFs.{UnixFsParts}
 use Rattle.unix_fs.specs.Nodes.{or_nothing}
 use Rattle.unix_fs.specs.Messages.{Says, SaysNothing}
 
--- a link without a name has the empty one
+-- the link has this name; a link without a name has the empty one
 abbrev pub has_name : List ℕ → LinkParts → Bool
 has_name name link = bytes_eq (or_nothing link.name) name
 
--- where the first link of this name leads
+-- the CID of the first link with this name
 abbrev pub link_named : List ℕ → List LinkParts → Option CidParts
 link_named name [] = None
 link_named name (link ∷ more) = if has_name name link then Some link.hash else link_named name more
 
--- the block is a node that says that it is a directory
+-- the block is a node whose message says that it is a directory
 abbrev pub IsDirectory : List ℕ → Type 0
 IsDirectory block = (parts : UnixFsParts) × Says block parts × (parts.kind ≡ Directory)
 
--- why it is none, or none that is read
+-- why the block is not a directory, or not one that can be read
 abbrev pub IsNoDirectory : DirectoryError → List ℕ → Type 0
 IsNoDirectory (NotANode e) block = SaysNothing (node.NotANode e) block
 IsNoDirectory NoData block = SaysNothing node.NoData block

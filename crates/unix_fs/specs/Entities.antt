@@ -1,4 +1,4 @@
--- What a block is, of those that files and directories are made of.
+-- What a block is.
 use Rattle.std.specs.Prelude.{◌≡◌, ◌≢◌, ◌⊎◌, ℕ, ◌^◌, nat_lt, List, length, true, if◌then◌else◌, Option, None, Some}
 use Rattle.unix_fs.specs.declared.entity.Entity.{Entity}
 use Rattle.unix_fs.specs.declared.entity.Entity.TheVariants.{File, Directory, Shard, Symlink, Metadata}
@@ -11,16 +11,16 @@ use Rattle.unix_fs.specs.Nodes.{or_nothing}
 use Rattle.unix_fs.specs.Messages.{Says, SaysNothing}
 use Rattle.unix_fs.specs.Files.{total_of, is_file}
 
--- a number below 2 ^ 64
+-- the number, if it is below 2 ^ 64
 abbrev pub fitting : ℕ → Option ℕ
 fitting n = if nat_lt n (2 ^ 64) then Some n else None
 
--- the size that is announced, or else that of the parts
+-- the size that is announced, or else the sum of the parts
 abbrev pub size_or : Option ℕ → ℕ → Option ℕ
 size_or (Some n) total = Some n
 size_or None total = fitting total
 
--- the node is this, by the kind of its message
+-- a node with this message is this entity
 abbrev pub IsSaid : Entity → UnixFsParts → Type 0
 IsSaid (File size) parts = (is_file parts.kind ≡ true) × (size ≡ size_or parts.file_size (total_of parts))
 IsSaid Directory parts = parts.kind ≡ kind.Directory
@@ -28,13 +28,13 @@ IsSaid Shard parts = parts.kind ≡ kind.HamtShard
 IsSaid (Symlink to) parts = (parts.kind ≡ kind.Symlink) × (to.now ≡ or_nothing parts.content)
 IsSaid Metadata parts = parts.kind ≡ kind.Metadata
 
--- The block of this codec is this: raw (55) it is a file, and of dag-pb (70) what its node says.
+-- The block of this codec is this entity: raw (55) is a file; dag-pb (70) is what its node says.
 abbrev pub IsEntity : Entity → ℕ → List ℕ → Type 0
 IsEntity entity codec block =
     ((codec ≡ 0x55) × (entity ≡ File (Some (length block))))
     ⊎ ((codec ≡ 0x70) × ((parts : UnixFsParts) × Says block parts × IsSaid entity parts))
 
--- why it is none
+-- why the block is not such an entity
 abbrev pub IsNoEntity : FileError → ℕ → List ℕ → Type 0
 IsNoEntity (OtherCodec other) codec block = (other ≡ codec) × (codec ≢ 0x55) × (codec ≢ 0x70)
 IsNoEntity (NotANode e) codec block = (codec ≡ 0x70) × SaysNothing (node.NotANode e) block

@@ -1,22 +1,22 @@
--- Messages of protocol buffers (encoding): the field at the front of bytes and the bytes after it, or
--- why none stands there.
+-- Messages of protocol buffers (encoding): the field at the front of bytes
+-- and the bytes after it, or why there is none.
 use Rattle.std.specs.Prelude.{ℕ, zero, suc, ◌+◌, ◌*◌, ◌%◌, ◌==◌, nat_lt, List, [], ◌∷◌, ◌++◌, length, take, drop, if◌then◌else◌, Result, Ok, Err}
 use Rattle.unix_fs.specs.declared.error.UnixFsCause.{UnixFsCause}
 use Rattle.unix_fs.specs.declared.error.UnixFsCause.TheVariants.{Truncated, InvalidVarint, UnexpectedField}
 
--- what is read at the front of bytes, and the bytes after it
+-- a part that is read at the front of bytes, and the bytes after it
 abbrev pub Front : Type 0 → Type 0
 Front A = Result (A × List ℕ) UnixFsCause
 
--- what is read of the bytes after
+-- a part, and then what is read from the bytes after it
 abbrev pub after : {A B : Type 0} → Front A → (A → List ℕ → Result B UnixFsCause) → Result B UnixFsCause
 after (Ok (a, rest)) f = f a rest
 after (Err cause) f = Err cause
 
 -- ---- numbers ("Base 128 varints")
 
--- groups of seven bits, the lowest first, the high bit on all but the last; at most so many follow the
--- first one, and of the tenth only the lowest bit is below 2 ^ 64
+-- groups of seven bits, the lowest first, with the high bit on all but the last; at most `more`
+-- follow the first one, and of the tenth only the lowest bit is below 2 ^ 64
 unfoldable pub groups_of : ℕ → List ℕ → Front ℕ
 groups_of more [] = Err Truncated
 groups_of zero (group ∷ b) = if nat_lt group 2 then Ok (group, b) else Err InvalidVarint
@@ -26,21 +26,21 @@ groups_of (suc more) (group ∷ b) = if nat_lt group 128 then Ok (group, b)
 unfoldable pub varint_of : List ℕ → Front ℕ
 varint_of = groups_of 9
 
--- ---- fields ("Message structure"): a tag, which is eight times the field's number and its wire type,
--- and a value
+-- ---- fields ("Message structure"): a tag, which is eight times the field's number plus its wire
+-- type, and a value
 
 pub data Value : Type 0 where
   number : ℕ → Value
   bytes : List ℕ → Value
 
--- so many bytes
+-- the first n bytes, and the bytes after them
 abbrev pub bytes_of : ℕ → List ℕ → Front (List ℕ)
 bytes_of n b = if nat_lt (length b) n then Err Truncated else Ok (take n b, drop n b)
 
 abbrev pub held_of : ℕ → List ℕ → Front Value
 held_of n b = after (bytes_of n b) λ s rest. Ok (bytes s, rest)
 
--- by the wire type: 0 a number, 1 eight bytes, 2 as many bytes as a number says, 5 four bytes
+-- by the wire type: 0 a number, 1 eight bytes, 2 a number and as many bytes, 5 four bytes
 unfoldable pub value_of : ℕ → List ℕ → Front Value
 value_of tag b =
     if tag % 8 == 0 then after (varint_of b) (λ n rest. Ok (number n, rest))
@@ -52,14 +52,14 @@ value_of tag b =
 unfoldable pub field_of : List ℕ → Front (ℕ × Value)
 field_of b = after (varint_of b) λ tag inner. after (value_of tag inner) λ value rest. Ok ((tag, value), rest)
 
--- ---- what stands in fields
+-- ---- picking from fields
 
 abbrev pub found_with : {A : Type 0} → (ℕ × Value → List A) → Front (ℕ × Value) → (List ℕ → List A) → List A
 found_with pick (Ok (field, rest)) more = pick field ++ more rest
 found_with pick (Err cause) more = []
 
--- what is picked of the fields in these bytes, up to where none begins: each has a byte at least, so as
--- many steps as bytes are enough
+-- picks from the fields in these bytes, up to where no field begins; as many steps as bytes are
+-- enough, because a field has at least one byte
 unfoldable pub found_from : {A : Type 0} → (ℕ × Value → List A) → ℕ → List ℕ → List A
 found_from pick zero b = []
 found_from pick (suc steps) b = found_with pick (field_of b) (found_from pick steps)

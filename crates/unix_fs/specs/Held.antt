@@ -1,4 +1,4 @@
--- What the code has of fields and messages.
+-- The values that the code's fields and messages stand for.
 use Rattle.std.specs.Prelude.{ℕ, option_map}
 use Rattle.unix_fs.specs.Fields.{number, bytes}
 use Rattle.unix_fs.specs.Fields as fields

@@ -1,4 +1,4 @@
--- What a block says of a file or a directory.
+-- The message of a block, about a file or a directory.
 use Rattle.std.specs.Prelude.{◌≡◌, ℕ, List, None, Some, Ok, Err}
 use Rattle.dag_pb.specs.Node.{HasNode}
 use Rattle.dag_pb.specs.Causes.{IsNoNode}
@@ -7,14 +7,14 @@ use Rattle.unix_fs.specs.declared.node.NodeError.TheVariants.{NotANode, NoData, 
 use Rattle.unix_fs.specs.UnixFs.{UnixFsParts, unix_fs_of}
 use Rattle.unix_fs.specs.Nodes.{data_of}
 
--- the block is a node, and its data are the message of these parts
+-- the block is a node, and its data are the message with these parts
 pub record Says (block : List ℕ) (parts : UnixFsParts) : Type 0 where
   pub node : HasNode block
   pub message : List ℕ
   pub stands : data_of block ≡ Some message
   pub is : unix_fs_of message ≡ Ok parts
 
--- why it says nothing
+-- why the block has no such message
 abbrev pub SaysNothing : NodeError → List ℕ → Type 0
 SaysNothing (NotANode e) block = IsNoNode block e
 SaysNothing NoData block = HasNode block × (data_of block ≡ None)

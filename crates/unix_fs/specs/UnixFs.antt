@@ -1,5 +1,5 @@
--- UnixFS: the message `Data` in the data of a DAG-PB node (UnixFS specification), of protocol buffers.
--- Of a field that stands twice, the later one counts.
+-- UnixFS: the message `Data` in the data of a DAG-PB node (UnixFS specification), as protocol
+-- buffers. If a field comes twice, the later one counts.
 use Rattle.std.specs.Prelude.{ℕ, zero, suc, ◌-◌, ◌^◌, ◌==◌, nat_lt, List, [], ◌∷◌, length, if◌then◌else◌, Option, None, Some, Result, Ok, Err}
 use Rattle.unix_fs.specs.Fields.{Front, after, Value, number, bytes, field_of, found_in}
 use Rattle.unix_fs.specs.declared.kind.Kind.{Kind}
@@ -8,7 +8,7 @@ use Rattle.unix_fs.specs.declared.error.UnixFsCause.{UnixFsCause}
 use Rattle.unix_fs.specs.declared.error.UnixFsCause.TheVariants.{UnexpectedField, PackedSizes, UnknownKind, NoKind}
 use Rattle.unix_fs.specs.declared.error.UnixFsError.{UnixFsError}
 
--- what the message is of: the sizes are those of the contents below the links of its node
+-- the parts of a message; the block sizes are those of the contents below its node's links
 pub record UnixFsParts : Type 0 where
   pub kind : Kind
   pub content : Option (List ℕ)
@@ -17,13 +17,13 @@ pub record UnixFsParts : Type 0 where
   pub hash_type : Option ℕ
   pub fanout : Option ℕ
 
--- field 1, `Type`
+-- field 1, `Type`: the kind with this number
 abbrev pub kind_of : ℕ → Option Kind
 kind_of n = if n == 0 then Some Raw else if n == 1 then Some Directory else if n == 2 then Some File
     else if n == 3 then Some Metadata else if n == 4 then Some Symlink
     else if n == 5 then Some HamtShard else None
 
--- ---- what fields say
+-- ---- the values of fields
 
 pub record SaidParts : Type 0 where
   pub kind : Option Kind
@@ -35,7 +35,7 @@ pub record SaidParts : Type 0 where
 abbrev pub nothing_said : SaidParts
 nothing_said = record { kind = None; content = None; file_size = None; hash_type = None; fanout = None }
 
--- the fields 7 and above are skipped, up to the greatest number of a field, 2 ^ 29 - 1
+-- fields 7 and above are skipped, up to the greatest number of a field, 2 ^ 29 - 1
 abbrev pub with_other : ℕ → SaidParts → Result SaidParts UnixFsCause
 with_other tag said =
     if nat_lt tag 0x38 then Err (UnexpectedField tag)
@@ -45,7 +45,7 @@ abbrev pub with_kind : ℕ → Option Kind → SaidParts → Result SaidParts Un
 with_kind n None said = Err (UnknownKind n)
 with_kind n (Some kind) said = Ok (record said { kind = Some kind })
 
--- numbers: field 1 `Type`, 3 `filesize`, 4 `blocksizes`, 5 `hashType` and 6 `fanout`
+-- fields of numbers: 1 `Type`, 3 `filesize`, 4 `blocksizes`, 5 `hashType` and 6 `fanout`
 unfoldable pub with_number : ℕ → ℕ → SaidParts → Result SaidParts UnixFsCause
 with_number tag n said =
     if tag == 0x08 then with_kind n (kind_of n) said
@@ -55,7 +55,7 @@ with_number tag n said =
     else if tag == 0x30 then Ok (record said { fanout = Some n })
     else with_other tag said
 
--- bytes: field 2 `Data`. Packed sizes are refused
+-- fields of bytes: 2 `Data`; packed sizes are refused
 unfoldable pub with_bytes : ℕ → List ℕ → SaidParts → Result SaidParts UnixFsCause
 with_bytes tag s said =
     if tag == 0x12 then Ok (record said { content = Some s })
@@ -70,7 +70,7 @@ abbrev pub then_rest : List ℕ → Result SaidParts UnixFsCause → Front SaidP
 then_rest rest (Ok said) = Ok (said, rest)
 then_rest rest (Err cause) = Err cause
 
--- with the first field
+-- the values with the first field added
 unfoldable pub said_next : SaidParts → List ℕ → Front SaidParts
 said_next said b = after (field_of b) λ field rest. then_rest rest (with_field field said)
 
@@ -80,8 +80,8 @@ abbrev pub or_at : List ℕ → List ℕ → Front SaidParts → (SaidParts → 
 or_at message b (Ok (said, rest)) f = f said rest
 or_at message b (Err cause) f = Err (record { cause = cause; place = length message - length b })
 
--- with the fields in these bytes at the end of the message: each has a byte at least, so as many steps
--- as bytes are enough
+-- the values with all fields of these last bytes of the message added; as many steps as bytes are
+-- enough, because a field has at least one byte
 unfoldable pub said_from : List ℕ → ℕ → SaidParts → List ℕ → Result SaidParts UnixFsError
 said_from message steps said [] = Ok said
 said_from message zero said (first ∷ b) = Ok said
@@ -91,7 +91,7 @@ said_from message (suc steps) said (first ∷ b) =
 unfoldable pub said_of : List ℕ → Result SaidParts UnixFsError
 said_of message = said_from message (length message) nothing_said message
 
--- the numbers in the fields 4
+-- the size in a field 4
 abbrev pub size_in : ℕ × Value → List ℕ
 size_in (tag, number n) = if tag == 0x20 then n ∷ [] else []
 size_in (tag, bytes s) = []
@@ -99,7 +99,7 @@ size_in (tag, bytes s) = []
 unfoldable pub sizes_of : List ℕ → List ℕ
 sizes_of = found_in size_in
 
--- the kind is there
+-- the parts of the message, if it has a kind
 abbrev pub whole : List ℕ → SaidParts → Option Kind → Result UnixFsParts UnixFsError
 whole message said None = Err (record { cause = NoKind; place = length message })
 whole message said (Some kind) = Ok (record {
@@ -115,6 +115,6 @@ abbrev pub whole_of : List ℕ → Result SaidParts UnixFsError → Result UnixF
 whole_of message (Ok said) = whole message said said.kind
 whole_of message (Err e) = Err e
 
--- the parts of the message, or why the bytes are none
+-- the parts of the message, or why the bytes are not a message
 unfoldable pub unix_fs_of : List ℕ → Result UnixFsParts UnixFsError
 unix_fs_of message = whole_of message (said_of message)

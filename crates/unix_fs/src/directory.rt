@@ -1,4 +1,4 @@
-//! Directories, and their entries.
+//! Directories and their entries.
 
 ghost use Rattle.std.specs.Prelude.{◌≡◌, List, MatchResult, IfOk};
 ghost use Rattle.dag_pb.specs.Node.{NodeParts, IsNode};
@@ -12,8 +12,9 @@ use crate::node::{NodeError, read_message};
 use dag_pb::{PbLink, next_link};
 use ipld_tree::Cid;
 
-/// Whether the block, under a CID of the codec dag-pb, is a directory. If it is, its links are its
-/// entries: `dag_pb::next_link` walks over the block, and gives each with its name and its CID.
+/// Validates the block, under a CID of the codec dag-pb, as a directory. The links of a directory
+/// are its entries: `dag_pb::next_link` walks over the block, and returns each with its name and
+/// its CID.
 pub fn check_directory(block: &[u8]) -> Result<(), DirectoryError>
     ensures directory { MatchResult result
         (λ _. IsDirectory block.now)
@@ -32,7 +33,8 @@ pub fn check_directory(block: &[u8]) -> Result<(), DirectoryError>
     }
 }
 
-/// Where the entry of this name leads: the first, if several have it. None if none has it.
+/// Returns the CID of the entry with this name: the first, if several have it. `None` if no entry
+/// has it.
 pub fn find_entry(block: &[u8], name: &[u8]) -> Result<Option<Cid>, DirectoryError>
     ensures { MatchResult result
         (λ found. IsDirectory block.now
@@ -43,7 +45,7 @@ pub fn find_entry(block: &[u8], name: &[u8]) -> Result<Option<Cid>, DirectoryErr
     Ok(first_named(block, name))
 }
 
-/// Where the first link of this name leads.
+/// Returns the CID of the first link with this name. `None` if no link has it.
 #[tactic(auto, using(crate::proofs::Entries::none_searched, crate::proofs::Entries::other_searched, crate::proofs::Entries::one_named, crate::proofs::Entries::none_named))]
 fn first_named(block: &[u8], name: &[u8]) -> Option<Cid>
     requires { HasRow block.now }
@@ -59,7 +61,7 @@ fn first_named(block: &[u8], name: &[u8]) -> Option<Cid>
     None
 }
 
-/// Whether the link has this name. A link that has none is of the empty name.
+/// Returns whether the link has this name. A link without a name counts as having the empty name.
 fn is_named(link: &PbLink<'_>, name: &[u8]) -> bool
     ensures { result ≡ has_name name.now (link_of link.now) }
 {

@@ -1,11 +1,11 @@
-//! Why a block is no directory.
+//! Why a block is not a directory.
 
 use crate::error::UnixFsError;
 use crate::kind::Kind;
 use dag_pb::PbError;
 use thiserror::Error;
 
-/// Why a block is no directory that is read.
+/// Why a block is not a directory that can be read.
 #[derive(Copy, Clone, Debug, PartialEq, Eq, Error)]
 pub enum DirectoryError {
     #[error("the block is no node: {0}")]
@@ -14,10 +14,10 @@ pub enum DirectoryError {
     NoData,
     #[error("the data of the node are no message: {0}")]
     NoMessage(UnixFsError),
-    /// The node is the root of such a directory, or another part of it.
+    /// The node is the root of a directory in shards, or another part of one.
     #[error("the directory is in shards, which are not read")]
     InShards,
-    /// A file, or a symbolic link.
+    /// The node is a file, or a symbolic link.
     #[error("the node is no directory")]
     NotADirectory(Kind),
 }

@@ -1,4 +1,4 @@
-//! What a block is.
+//! Says what a block is.
 
 ghost use Rattle.std.specs.Prelude.{◌≡◌, MatchResult};
 ghost use Rattle.ipld_tree.specs.Cid.{cid_bytes};
@@ -15,23 +15,23 @@ use crate::totals::total_in;
 use crate::wanted::{DAG_PB, RAW, codec_in};
 use ipld_tree::Cid;
 
-/// What a block is, of those that files and directories are made of.
+/// The kinds of blocks that files and directories are made of.
 #[derive(Clone, Copy, Debug)]
 pub enum Entity<'a> {
-    /// A file or a part of one, and the number of its bytes: as the node announces it, or else as
-    /// the bytes in it and its block sizes make it. None if they make 2^64 or more.
+    /// A file or a part of one, and its size in bytes: the size that the node announces, or else
+    /// the sum of the bytes in it and its block sizes. `None` if that sum is 2^64 or more.
     File(Option<u64>),
     Directory,
     /// A part of a directory in shards.
     Shard,
-    /// Where it leads.
+    /// A symbolic link, and the path that it leads to.
     Symlink(&'a [u8]),
-    /// What old writers say of a file beside its bytes.
+    /// Metadata that old writers keep beside a file's bytes.
     Metadata,
 }
 
-/// What the block under the CID is. Nothing that a node announces is compared with the blocks below
-/// it.
+/// Returns what the block under the CID is. No size that a node announces is compared with the
+/// blocks below it.
 pub fn read_entity<'a>(cid: &Cid, block: &'a [u8]) -> Result<Entity<'a>, FileError>
     ensures { MatchResult result
         (λ entity. IsEntity entity (codec_of (cid_bytes cid.now)) block.now)
@@ -50,7 +50,7 @@ pub fn read_entity<'a>(cid: &Cid, block: &'a [u8]) -> Result<Entity<'a>, FileErr
     }
 }
 
-/// What a node of this message is.
+/// Returns what a node with this message is.
 fn entity_in<'a>(said: &UnixFs<'a>) -> Entity<'a>
     ensures { IsSaid result (held_parts said.now) }
 {
@@ -63,7 +63,8 @@ fn entity_in<'a>(said: &UnixFs<'a>) -> Entity<'a>
     }
 }
 
-/// The number of bytes of a file.
+/// Returns the size of a file in bytes: as announced, or else the sum of its parts. `None` if that
+/// is 2^64 or more.
 fn size_in(said: &UnixFs<'_>) -> Option<u64>
     ensures { result ≡ size_or (held_parts said.now).file_size (total_of (held_parts said.now)) }
 {

@@ -7,21 +7,21 @@ ghost use Rattle.unix_fs.specs.Held.{held_value, held_field};
 use crate::error::UnixFsCause;
 use crate::varint::{split_bytes, split_varint};
 
-/// What a field holds.
+/// The value of a field.
 #[derive(Clone, Copy)]
 pub(crate) enum Value<'a> {
     Number(u64),
     Bytes(&'a [u8]),
 }
 
-/// A field: its tag, and what it holds.
+/// A field: its tag and its value.
 #[derive(Clone, Copy)]
 pub(crate) struct Field<'a> {
     pub tag: u64,
     pub value: Value<'a>,
 }
 
-/// The field at the front, and the bytes after it.
+/// Returns the field at the front, and the bytes after it.
 #[tactic(auto, unfolding(crate::specs::Fields::field_of))]
 pub(crate) fn split_field(bytes: &[u8]) -> Result<(Field<'_>, &[u8]), UnixFsCause>
     ensures field { MatchResult result
@@ -34,7 +34,7 @@ pub(crate) fn split_field(bytes: &[u8]) -> Result<(Field<'_>, &[u8]), UnixFsCaus
     Ok((Field { tag, value }, rest))
 }
 
-/// The value of the field with this tag, by its wire type, and the bytes after it.
+/// Returns the value of the field with this tag, read by its wire type, and the bytes after it.
 #[tactic(auto, unfolding(crate::specs::Fields::value_of))]
 fn split_value(tag: u64, bytes: &[u8]) -> Result<(Value<'_>, &[u8]), UnixFsCause>
     ensures { MatchResult result
@@ -56,7 +56,7 @@ fn split_value(tag: u64, bytes: &[u8]) -> Result<(Value<'_>, &[u8]), UnixFsCause
     }
 }
 
-/// A value of so many bytes, and the bytes after it.
+/// Returns a value of `count` bytes, and the bytes after it.
 fn split_held(count: u64, bytes: &[u8]) -> Result<(Value<'_>, &[u8]), UnixFsCause>
     ensures { MatchResult result
         (λ p. held_of count bytes.now ≡ Ok (held_value p.0, p.1.now))

@@ -3,20 +3,20 @@
 ghost use Rattle.std.specs.Prelude.{◌≡◌};
 ghost use Rattle.unix_fs.specs.UnixFs.{kind_of};
 
-/// What a message speaks of.
+/// The kind of data that a message describes.
 #[derive(Copy, Clone, Debug, PartialEq, Eq)]
 pub enum Kind {
-    /// The bytes of a part of a file, as old writers name them.
+    /// The bytes of a part of a file, as old writers name it.
     Raw,
     Directory,
     File,
     Metadata,
     Symlink,
-    /// A part of a directory that is spread over a hash array mapped trie.
+    /// A part of a directory in shards: one spread over a hash array mapped trie.
     HamtShard,
 }
 
-/// The kind of this number.
+/// Returns the kind with this number. `None` if the standard has none.
 pub(crate) fn kind_from(number: u64) -> Option<Kind>
     ensures { result ≡ kind_of number }
 {

@@ -1,6 +1,6 @@
-//! UnixFS: what files and directories of IPFS say in the data of a DAG-PB node, what a block is, where
-//! the entries of a directory lead, and the bytes of a file, block by block. Only the walk over a file
-//! takes memory.
+//! UnixFS, the files and directories of IPFS. Reads the message in the data of a DAG-PB node, says
+//! what a block is, looks up entries of directories, and reads a file block by block. Only reading
+//! a file allocates.
 #![tactic(auto)]
 
 mod directory;

@@ -1,4 +1,4 @@
-//! The message of a file or a directory.
+//! Reads the message of a file or a directory.
 
 ghost use Rattle.std.specs.Prelude.{◌≡◌, ◌<◌, length, MatchResult, IfOk};
 ghost use Rattle.unix_fs.specs.UnixFs.{nothing_said, with_number, with_bytes, with_other, with_field, said_next, said_of, unix_fs_of};
@@ -8,7 +8,7 @@ use crate::error::{UnixFsCause, UnixFsError};
 use crate::field::{Field, Value, split_field};
 use crate::kind::{Kind, kind_from};
 
-/// The tags: eight times the field's number, and the wire type.
+/// The tags of the fields. A tag is eight times the field's number, plus its wire type.
 const KIND: u64 = 0x08;
 
 const CONTENT: u64 = 0x12;
@@ -23,28 +23,29 @@ const HASH_TYPE: u64 = 0x28;
 
 const FANOUT: u64 = 0x30;
 
-/// The first tag of the fields after those, and the first that is out of range.
+/// The first tag of the later fields, which are skipped, and the first tag out of range.
 const OTHER_FIELDS: u64 = 0x38;
 
 const NO_FIELDS: u64 = 0x1_0000_0000;
 
-/// What a node says of a file, of a part of it, or of a directory.
+/// The message of a node, about a file, a part of one, or a directory.
 #[derive(Clone, Copy, Debug)]
 pub struct UnixFs<'a> {
     pub kind: Kind,
-    /// The bytes of the file that stand in the node itself; of a symlink, where it leads.
+    /// The bytes of the file that are in the node itself, or the path that a symbolic link leads
+    /// to.
     pub content: Option<&'a [u8]>,
-    /// The number of bytes of the file below this node, as who wrote it said.
+    /// The number of bytes of the file below this node, as its author gave it.
     pub file_size: Option<u64>,
-    /// Where the block sizes stand, one for each link: `next_size` reads them.
+    /// The bytes that hold the block sizes, one for each link. Read them with `next_size`.
     pub sizes: &'a [u8],
     /// The hash function of a directory in shards, by its multihash code.
     pub hash_type: Option<u64>,
-    /// The number of links that a shard has at most.
+    /// The most links that a shard can have.
     pub fanout: Option<u64>,
 }
 
-/// What the fields so far say.
+/// The values of the fields read so far.
 #[derive(Clone, Copy)]
 pub(crate) struct Said<'a> {
     pub kind: Option<Kind>,
@@ -54,9 +55,8 @@ pub(crate) struct Said<'a> {
     pub fanout: Option<u64>,
 }
 
-/// What the message says. Of a field that stands twice, the later one counts, as readers of
-/// protocol buffers have it. The mode, the time and fields that the standard does not know are
-/// skipped.
+/// Reads a message. If a field comes twice, the later one counts, as in protocol buffers. The mode,
+/// the time, and fields that the standard does not know are skipped.
 #[tactic(auto, unfolding(crate::specs::UnixFs::unix_fs_of))]
 pub fn read_unix_fs(message: &[u8]) -> Result<UnixFs<'_>, UnixFsError>
     ensures { MatchResult result
@@ -80,7 +80,7 @@ pub fn read_unix_fs(message: &[u8]) -> Result<UnixFs<'_>, UnixFsError>
     }
 }
 
-/// What the fields of the message say together.
+/// Returns the values of all fields of the message.
 #[tactic(auto, using(crate::proofs::Steps::none_read, crate::proofs::Steps::one_read, crate::proofs::Steps::all_read, crate::proofs::Steps::not_read))]
 fn read_fields(message: &[u8]) -> Result<Said<'_>, UnixFsError>
     ensures { MatchResult result
@@ -112,7 +112,7 @@ fn read_fields(message: &[u8]) -> Result<Said<'_>, UnixFsError>
     Ok(said)
 }
 
-/// The field at the front added to what was said, and the bytes after it.
+/// Adds the field at the front to the values, and returns the bytes after it.
 #[tactic(auto, unfolding(crate::specs::UnixFs::said_next))]
 fn read_field<'a>(said: Said<'a>, bytes: &'a [u8]) -> Result<(Said<'a>, &'a [u8]), UnixFsCause>
     ensures field { MatchResult result
@@ -129,7 +129,7 @@ fn read_field<'a>(said: Said<'a>, bytes: &'a [u8]) -> Result<(Said<'a>, &'a [u8]
 }
 
 impl<'a> Said<'a> {
-    /// With a field that is a number.
+    /// Adds a field that is a number.
     #[tactic(auto, unfolding(crate::specs::UnixFs::with_number))]
     fn with_number(self, tag: u64, number: u64) -> Result<Said<'a>, UnixFsCause>
         ensures { MatchResult result
@@ -161,7 +161,7 @@ impl<'a> Said<'a> {
         }
     }
 
-    /// With a field that is bytes.
+    /// Adds a field that is bytes.
     #[tactic(auto, unfolding(crate::specs::UnixFs::with_bytes))]
     fn with_bytes(self, tag: u64, inner: &'a [u8]) -> Result<Said<'a>, UnixFsCause>
         ensures { MatchResult result
@@ -178,7 +178,7 @@ impl<'a> Said<'a> {
         }
     }
 
-    /// With a field that is skipped, if one of this tag may stand there.
+    /// Skips a field with this tag, if it is allowed.
     fn with_other(self, tag: u64) -> Result<Said<'a>, UnixFsCause>
         ensures { MatchResult result
             (λ said. with_other tag (held_said self.entry) ≡ Ok (held_said said))

@@ -1,4 +1,4 @@
-//! The data of a node, and the message in them.
+//! The data of a node, and the message in it.
 
 ghost use Rattle.std.specs.Prelude.{◌≡◌, [], ◌∷◌, option_map, MatchOption, MatchResult};
 ghost use Rattle.unix_fs.specs.Held.{held_field, held_parts};
@@ -10,10 +10,10 @@ use crate::field::{Field, Value, split_field};
 use crate::message::{UnixFs, read_unix_fs};
 use dag_pb::{PbError, check_node};
 
-/// The tag of the data of a node, field 1 and bytes.
+/// The tag of a node's data: field 1, of bytes.
 const DATA: u64 = 0x0a;
 
-/// Why a block says nothing of a file or a directory.
+/// Why a block has no message of a file or a directory.
 #[derive(Clone, Copy)]
 pub(crate) enum NodeError {
     NotANode(PbError),
@@ -21,7 +21,7 @@ pub(crate) enum NodeError {
     NoMessage(UnixFsError),
 }
 
-/// What a node says, which is judged as a block of DAG-PB first.
+/// Validates the block as DAG-PB, and reads the message in its data.
 pub(crate) fn read_message(block: &[u8]) -> Result<UnixFs<'_>, NodeError>
     ensures { MatchResult result
         (λ said. Says block.now (held_parts said))
@@ -39,8 +39,8 @@ pub(crate) fn read_message(block: &[u8]) -> Result<UnixFs<'_>, NodeError>
     }
 }
 
-/// The data of a block of DAG-PB, in which the message stands. Of other bytes it is what stands in
-/// their first field 1.
+/// Returns the data of a block of DAG-PB, which hold the message. From other bytes it returns the
+/// first field 1 of bytes. `None` if there is none.
 #[tactic(auto, using(crate::proofs::Nodes::data_found, crate::proofs::Nodes::no_data), unfolding(crate::specs::Nodes::data_of))]
 pub fn node_data(block: &[u8]) -> Option<&[u8]>
     ensures { option_map (λ s. s.now) result ≡ data_of block.now }
@@ -55,7 +55,7 @@ pub fn node_data(block: &[u8]) -> Option<&[u8]>
     None
 }
 
-/// The data that the field gives.
+/// Returns the data, if the field holds them.
 fn data_of_field<'a>(field: &Field<'a>) -> Option<&'a [u8]>
     ensures { MatchOption result (data_in (held_field field.now) ≡ [])
         (λ inner. data_in (held_field field.now) ≡ inner.now ∷ []) }

@@ -1,4 +1,4 @@
-//! What stands in one block of a file.
+//! Reads one block of a file.
 
 ghost use Rattle.std.specs.Prelude.{◌≡◌, ◌<◌, MatchResult, map, ◌↔◌, IsTrue};
 ghost use Rattle.ipld_tree.specs.Cid.{cid_bytes};
@@ -15,14 +15,14 @@ use crate::totals::{has_empty_part, is_announced};
 use crate::wanted::{DAG_PB, RAW, Wanted, codec_in, wanted_below};
 use std::alloc::Global;
 
-/// Bytes of the file, and the blocks that are wanted after them.
+/// The file's bytes in a block, and the blocks that are wanted after them.
 #[derive(Drop)]
 pub(crate) struct Part<'a> {
     pub content: &'a [u8],
     pub after: Vec<Wanted>,
 }
 
-/// What stands in the block under the CID that is wanted.
+/// Reads the block that is wanted, under its CID.
 pub(crate) fn read_part<'a>(
     alloc: Global,
     wanted: &Wanted,
@@ -43,7 +43,7 @@ pub(crate) fn read_part<'a>(
     }
 }
 
-/// The bytes of a leaf.
+/// Reads a leaf. All of its bytes are the file's.
 fn read_leaf<'a>(alloc: Global, wanted: &Wanted, block: &'a [u8]) -> Result<Part<'a>, FileError>
     requires codec { codec_of (cid_bytes wanted.now.cid) ≡ 0x55 }
     requires deep { 0 < wanted.now.depth }
@@ -60,7 +60,7 @@ fn read_leaf<'a>(alloc: Global, wanted: &Wanted, block: &'a [u8]) -> Result<Part
     })
 }
 
-/// The bytes in a node, and the blocks under its links.
+/// Reads a node: the file's bytes in it, and the blocks under its links.
 fn read_node<'a>(alloc: Global, wanted: &Wanted, block: &'a [u8]) -> Result<Part<'a>, FileError>
     requires codec { codec_of (cid_bytes wanted.now.cid) ≡ 0x70 }
     requires deep { 0 < wanted.now.depth }
@@ -76,7 +76,7 @@ fn read_node<'a>(alloc: Global, wanted: &Wanted, block: &'a [u8]) -> Result<Part
     }
 }
 
-/// The bytes in a node of this message, and the blocks under its links.
+/// Reads a node with this message: the file's bytes in it, and the blocks under its links.
 fn read_file<'a>(
     alloc: Global,
     wanted: &Wanted,
@@ -105,7 +105,8 @@ fn read_file<'a>(
     Ok(Part { content, after })
 }
 
-/// The bytes of the file that stand in the node itself; of a symlink, where it leads.
+/// Returns the bytes of the file that are in the node itself, or the path that a symbolic link
+/// leads to.
 pub(crate) fn content_of<'a>(file: &UnixFs<'a>) -> &'a [u8]
     ensures { result.now ≡ or_nothing (held_parts file.now).content }
 {
@@ -115,7 +116,7 @@ pub(crate) fn content_of<'a>(file: &UnixFs<'a>) -> &'a [u8]
     }
 }
 
-/// Whether a node of this kind has bytes of a file.
+/// Returns whether a node of this kind has bytes of a file.
 fn is_file_kind(kind: Kind) -> bool
     ensures { result ≡ is_file kind }
 {

@@ -1,4 +1,4 @@
-//! A file, read block by block.
+//! Reads a file block by block.
 
 ghost use Rattle.std.specs.Prelude.{◌≡◌, ◌≢◌, ◌++◌, ◌∷◌, [], ℕ, List, Option, map, MatchResult, MatchOption, None, Err};
 ghost use Rattle.ipld_tree.specs.Cid.{cid_bytes};
@@ -13,16 +13,16 @@ use crate::wanted::{Wanted, push_one};
 use ipld_tree::Cid;
 use std::alloc::Global;
 
-/// Reads a file block by block, and hands out its bytes in their order. Who calls it fetches the
-/// block that is wanted next, verifies it under its CID, and hands it in.
+/// Reads a file block by block, and returns its bytes in their order. The caller fetches the next
+/// wanted block, verifies it against its CID, and passes it to `take`.
 #[derive(Drop)]
 pub struct FileReader {
-    /// The blocks that are wanted. The last of them is wanted next.
+    /// The blocks that are wanted. The last one is the next.
     pub wanted: Vec<Wanted>,
 }
 
 impl FileReader {
-    /// Begins at the root. Links may lead so many blocks deep, the root included.
+    /// Begins at the root. Links may lead `depth` blocks deep, the root included.
     pub fn new(alloc: Global, root: Cid, depth: u32) -> Result<FileReader, FileError>
         ensures { MatchResult result
             (λ reader. (blocks : List ℕ → Option (List ℕ))
@@ -39,7 +39,7 @@ impl FileReader {
         Ok(FileReader { wanted })
     }
 
-    /// The block that is wanted next. None at the end of the file.
+    /// Returns the next wanted block. `None` at the end of the file.
     pub fn next_wanted(&self) -> Option<&Wanted>
         ensures { MatchOption result (self.now.wanted.items ≡ [])
             (λ w. (below : List WantedParts) × (self.now.wanted.items ≡ below ++ w.now ∷ [])) }
@@ -47,8 +47,8 @@ impl FileReader {
         self.wanted.last()
     }
 
-    /// Takes the block that was wanted, and hands out the bytes of the file that stand in it. They come
-    /// after those that were handed out before. After a refusal the reader is of no more use.
+    /// Takes the block that was wanted, and returns the bytes of the file in it. They come after
+    /// those returned before. After a refusal the reader is of no more use.
     pub fn take<'a>(&mut self, alloc: Global, block: &'a [u8]) -> Result<&'a [u8], FileError>
         ensures taken { (blocks : List ℕ → Option (List ℕ)) (below : List Asked) (w : Asked)
             → IsNext blocks (map asked self.old.wanted.items) below w block.now
@@ -68,7 +68,7 @@ impl FileReader {
     }
 }
 
-/// Wants these blocks before all others, the first of them next.
+/// Adds these blocks, so that they come before all others, the first of them next.
 fn push_all(wanted: &mut Vec<Wanted>, first: Vec<Wanted>) -> Result<(), FileError>
     ensures { MatchResult result
         (λ _. ((blocks : List ℕ → Option (List ℕ)) → stack_bytes blocks (map asked wanted.new.items)

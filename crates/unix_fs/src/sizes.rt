@@ -7,8 +7,8 @@ ghost use Rattle.unix_fs.specs.Held.{held_field};
 use crate::field::{Field, Value, split_field};
 use crate::message::BLOCK_SIZE;
 
-/// The first block size among the fields, and the fields after it. A walk begins at
-/// `UnixFs::sizes`.
+/// Returns the first block size among the fields, and the fields after it. `None` if there are no
+/// more. Begin with `UnixFs::sizes`.
 #[tactic(auto, using(crate::proofs::Steps::all_fields, crate::proofs::Steps::no_more), unfolding(crate::specs::UnixFs::sizes_of))]
 pub fn next_size(fields: &[u8]) -> Option<(u64, &[u8])>
     ensures size { MatchOption result (sizes_of fields.now ≡ [])
@@ -25,7 +25,7 @@ pub fn next_size(fields: &[u8]) -> Option<(u64, &[u8])>
     None
 }
 
-/// The block size that the field gives.
+/// Returns the block size, if the field holds one.
 fn size_of_field(field: &Field<'_>) -> Option<u64>
     ensures { MatchOption result (size_in (held_field field.now) ≡ [])
         (λ size. size_in (held_field field.now) ≡ size ∷ []) }

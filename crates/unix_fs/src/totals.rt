@@ -1,4 +1,4 @@
-//! Whether announced sizes are those of the parts.
+//! Tests whether announced sizes are those of the parts.
 
 ghost use Rattle.std.specs.Prelude.{◌≡◌, ◌↔◌, ◌+◌, IsTrue, sum};
 ghost use Rattle.unix_fs.specs.UnixFs.{sizes_of};
@@ -8,7 +8,8 @@ ghost use Rattle.unix_fs.specs.Reading.{IsTotal};
 
 use crate::sizes::next_size;
 
-/// Whether the size, if it is announced, is that of the content and the block sizes together.
+/// Returns whether the size is the sum of the content's length and the block sizes, if it is
+/// announced.
 pub(crate) fn is_announced(size: Option<u64>, content: usize, sizes: &[u8]) -> bool
     ensures { IsTrue result ↔ IsTotal size (content + sum (sizes_of sizes.now)) }
 {
@@ -18,7 +19,7 @@ pub(crate) fn is_announced(size: Option<u64>, content: usize, sizes: &[u8]) -> b
     }
 }
 
-/// Whether the content and the block sizes make the total.
+/// Returns whether the total is the sum of the content's length and the block sizes.
 fn is_total(total: u64, content: usize, sizes: &[u8]) -> bool
     ensures { IsTrue result ↔ (total ≡ content + sum (sizes_of sizes.now)) }
 {
@@ -28,7 +29,7 @@ fn is_total(total: u64, content: usize, sizes: &[u8]) -> bool
     }
 }
 
-/// The number of bytes that the content and the block sizes make, if it is below 2^64.
+/// Returns the sum of the content's length and the block sizes. `None` if it is 2^64 or more.
 pub(crate) fn total_in(content: usize, sizes: &[u8]) -> Option<u64>
     ensures { result ≡ fitting (content + sum (sizes_of sizes.now)) }
 {
@@ -44,7 +45,7 @@ pub(crate) fn total_in(content: usize, sizes: &[u8]) -> Option<u64>
     Some(total)
 }
 
-/// Whether a block size is 0.
+/// Returns whether a block size is 0.
 #[tactic(auto, using(crate::proofs::Empties::none_passed, crate::proofs::Empties::one_passed, crate::proofs::Empties::empty_found, crate::proofs::Empties::no_empty))]
 pub(crate) fn has_empty_part(sizes: &[u8]) -> bool
     ensures { result ≡ has_empty (sizes_of sizes.now) }

@@ -1,14 +1,14 @@
-//! Numbers of protocol buffers, and runs of bytes.
+//! Varints of protocol buffers, and runs of bytes.
 
 ghost use Rattle.std.specs.Prelude.{◌≡◌, ◌↔◌, IsTrue, ◌<◌, ◌≤◌, ◌*◌, ◌^◌, length, MatchResult, IfOk};
 ghost use Rattle.unix_fs.specs.Fields.{groups_of, varint_of, bytes_of};
 
 use crate::error::UnixFsCause;
 
-/// How many groups may follow the first one of a number.
+/// The most bytes of a varint after its first one.
 const MOST_GROUPS: u32 = 9;
 
-/// The number at the front, and the bytes after it.
+/// Returns the number at the front, and the bytes after it.
 #[tactic(auto, unfolding(crate::specs::Fields::varint_of))]
 pub(crate) fn split_varint(bytes: &[u8]) -> Result<(u64, &[u8]), UnixFsCause>
     ensures { MatchResult result
@@ -18,7 +18,8 @@ pub(crate) fn split_varint(bytes: &[u8]) -> Result<(u64, &[u8]), UnixFsCause>
     split_groups(MOST_GROUPS, bytes)
 }
 
-/// The number at the front, of which at most so many groups follow the first one.
+/// Returns the number at the front, and the bytes after it. At most `more` groups may follow the
+/// first one.
 #[tactic(auto, unfolding(crate::specs::Fields::groups_of))]
 fn split_groups(more: u32, bytes: &[u8]) -> Result<(u64, &[u8]), UnixFsCause>
     requires { more ≤ 9 }
@@ -40,15 +41,15 @@ fn split_groups(more: u32, bytes: &[u8]) -> Result<(u64, &[u8]), UnixFsCause>
     Ok((u64::from(group % 128) + 128 * number, behind))
 }
 
-/// Whether no number has the group where so many may follow it: of the tenth only the lowest bit is
-/// below 2^64.
+/// Returns whether a varint below 2^64 cannot have this group here, where `more` groups may follow.
+/// Of the tenth group it has the lowest bit only.
 fn is_too_large(more: u32, group: u8) -> bool
     ensures { IsTrue result ↔ ((more ≡ 0) × (1 < group)) }
 {
     more == 0 && group > 1
 }
 
-/// So many bytes, and those after them.
+/// Returns the first `count` bytes, and the bytes after them.
 pub(crate) fn split_bytes(count: u64, bytes: &[u8]) -> Result<(&[u8], &[u8]), UnixFsCause>
     ensures { MatchResult result
         (λ p. bytes_of count bytes.now ≡ Ok (p.0.now, p.1.now))

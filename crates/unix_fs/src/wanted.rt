@@ -1,4 +1,4 @@
-//! The blocks that a file wants next.
+//! The blocks of a file that are wanted next.
 
 ghost use Rattle.std.specs.Prelude.{◌≡◌, ◌++◌, ◌∷◌, [], MatchResult, map, Some};
 ghost use Rattle.ipld_tree.specs.Cid.{cid_bytes};
@@ -14,23 +14,23 @@ use dag_pb::next_link;
 use ipld_tree::Cid;
 use std::alloc::Global;
 
-/// The codec of leaves.
+/// The codec of leaves (multicodec table).
 pub(crate) const RAW: u64 = 0x55;
 
-/// The codec of nodes.
+/// The codec of nodes (multicodec table).
 pub(crate) const DAG_PB: u64 = 0x70;
 
 /// A block that is wanted.
 #[derive(Clone, Copy, Debug)]
 pub struct Wanted {
     pub cid: Cid,
-    /// The number of bytes of the file below it, if the node above announced one.
+    /// The number of bytes of the file in and below this block, if the node above announced it.
     pub size: Option<u64>,
-    /// How many blocks deep links may lead, this block included.
+    /// How many blocks deep links may lead, this one included.
     pub depth: u32,
 }
 
-/// The codec of the block under the CID.
+/// Returns the codec of the block under the CID.
 pub(crate) fn codec_in(cid: &Cid) -> u64
     ensures { result ≡ codec_of (cid_bytes cid.now) }
 {
@@ -40,7 +40,7 @@ pub(crate) fn codec_in(cid: &Cid) -> u64
     }
 }
 
-/// Appends one.
+/// Appends a block to the wanted ones.
 pub(crate) fn push_one(wanted: &mut Vec<Wanted>, one: Wanted) -> Result<(), FileError>
     ensures { MatchResult result
         (λ _. wanted.new.items ≡ wanted.old.items ++ one ∷ [])
@@ -52,7 +52,7 @@ pub(crate) fn push_one(wanted: &mut Vec<Wanted>, one: Wanted) -> Result<(), File
     }
 }
 
-/// The blocks under the links of a node, each with its size, in their order.
+/// Returns the blocks under the links of a node, each with its size, in the order of the links.
 pub(crate) fn wanted_below(
     alloc: Global,
     depth: u32,

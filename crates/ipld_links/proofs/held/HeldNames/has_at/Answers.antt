@@ -2,7 +2,7 @@ use Rattle.std.proofs.Common.{ℕ, List, ◌≡◌, ◌<◌, length, get_or, sli
 use Rattle.ipld_tree.specs.Cid.{CidParts}
 use Rattle.ipld_links.proofs.held.HeldNames.has_at.Goals as goal
 
--- what stands at a place
+-- the name at a place
 stands_at : (names : List CidParts) (i : ℕ) (name : CidParts) → i < length names → name ≡ get_or names i name → slice_get names i ≡ Some name
 stands_at [] i name few is = absurd (omega (arith, few))
 stands_at (x ∷ xs) zero name few is = ap Some (sym is)

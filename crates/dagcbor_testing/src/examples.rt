@@ -20,8 +20,8 @@ const NOTES: &[(&[u8], &str)] = &[
     ),
 ];
 
-/// Fails where the note of the year 23 and of the text "hi" is written otherwise, or where it or
-/// another spelling of it, however the bytes come, is read otherwise.
+/// Fails if the note of the year 23 and of the text "hi" is written otherwise, or if it or another
+/// spelling of it, however the bytes come, is read otherwise.
 pub fn note_goes_both_ways<'de, T: Serialize + Deserialize<'de> + Debug + Drop>(
     alloc: Global,
     note: &T,

@@ -4,7 +4,7 @@ use std::alloc::Global;
 use std::fmt::Debug;
 use std::test::Fail;
 
-/// Fails where the two differ.
+/// Fails if the two differ.
 pub fn agree<T: Debug + PartialEq + Copy>(answer: T, wanted: T) -> Result<(), Fail> {
     if answer == wanted {
         return Ok(());
@@ -12,7 +12,7 @@ pub fn agree<T: Debug + PartialEq + Copy>(answer: T, wanted: T) -> Result<(), Fa
     Err(Fail::new(format_args!("{answer:?} in place of {wanted:?}")))
 }
 
-/// Fails where the value's text is another.
+/// Fails if the value's text is another.
 pub fn is_told<T: Debug>(alloc: Global, value: &T, wanted: &str) -> Result<(), Fail> {
     let text = format!(in alloc; "{value:?}")?;
     agree(text.as_str(), wanted)

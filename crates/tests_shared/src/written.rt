@@ -5,13 +5,13 @@ use dagcbor_write::{Serialize, to_vec};
 use std::alloc::Global;
 use std::test::Fail;
 
-/// Fails where the value is written as other bytes, or is refused.
+/// Fails if the value is written as other bytes, or is refused.
 pub fn writes<T: Serialize>(alloc: Global, value: &T, spelling: &[u8]) -> Result<(), Fail> {
     let written = to_vec(alloc, value)?;
     agree(written.as_slice(), spelling)
 }
 
-/// Fails where a row's value is written as other bytes than those beside it, or is refused.
+/// Fails if a row's value is written as other bytes than those beside it, or is refused.
 pub fn each_writes<T: Serialize>(alloc: Global, rows: &[(T, &[u8])]) -> Result<(), Fail> {
     for (value, spelling) in rows {
         writes(alloc, value, spelling)?;
@@ -19,7 +19,7 @@ pub fn each_writes<T: Serialize>(alloc: Global, rows: &[(T, &[u8])]) -> Result<(
     Ok(())
 }
 
-/// Fails where a write answers anything but this, as text.
+/// Fails if a write answers anything but this, as text.
 pub fn is_unwritten<T: Serialize>(alloc: Global, value: &T, wanted: &str) -> Result<(), Fail> {
     is_told(alloc, &to_vec(alloc, value), wanted)
 }

@@ -10,7 +10,7 @@ use std::fmt::Debug;
 use std::test::Fail;
 use tests_shared::{Source, agree, is_told};
 
-/// Fails where a read within no step, or within one, answers anything but this, as text.
+/// Fails if a read within no step, or within one, answers anything but this, as text.
 fn tells_within<'de, T: Deserialize<'de> + Debug>(
     alloc: Global,
     bytes: &'de [u8],

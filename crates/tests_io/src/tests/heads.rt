@@ -13,7 +13,7 @@ use std::mem::size_of;
 use std::test::Fail;
 use tests_shared::{agree, is_told};
 
-/// Fails where a reader that shows so many bytes a fill gives another head, or more.
+/// Fails if a reader that shows so many bytes a fill gives another head, or more.
 fn is_head(head: &[u8], size: usize, major: u8, argument: u64) -> Result<(), Fail> {
     let mut reader = Pieces::new(head, size);
     let (read_major, read_argument, _) = pull_head("any", &mut reader)?;
@@ -21,7 +21,7 @@ fn is_head(head: &[u8], size: usize, major: u8, argument: u64) -> Result<(), Fai
     agree(is_at_end(&mut reader)?, true)
 }
 
-/// Fails where the head is written or read otherwise.
+/// Fails if the head is written or read otherwise.
 fn goes_both_ways(alloc: Global, major: u8, argument: u64, head: &[u8]) -> Result<(), Fail>
     requires { major ≤ 7 }
 {
@@ -77,7 +77,7 @@ fn lent_or_gathered<'a>(payload: &'a CowSlice<'_, u8>) -> (bool, &'a [u8]) {
     }
 }
 
-/// Fails where other bytes than "abc" come first, or where so many more are told otherwise.
+/// Fails if other bytes than "abc" come first, or if so many more are told otherwise.
 fn pulls(
     alloc: Global,
     input: &mut Input<'_, Pieces<'_>>,

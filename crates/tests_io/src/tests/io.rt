@@ -11,7 +11,7 @@ use std::io::ErrorKind;
 use std::test::Fail;
 use tests_shared::{Sink, Source, agree, is_told};
 
-/// Fails where a read of the whole source answers anything else.
+/// Fails if a read of the whole source answers anything else.
 fn comes<'de, T: DeserializeOwned<'de> + Debug>(
     alloc: Global,
     source: Source<'_>,
@@ -20,7 +20,7 @@ fn comes<'de, T: DeserializeOwned<'de> + Debug>(
     is_told(alloc, &from_reader::<T, Source<'_>>(alloc, source), told)
 }
 
-/// Fails where a read of one item answers anything else.
+/// Fails if a read of one item answers anything else.
 fn comes_once<'de, T: DeserializeOwned<'de> + Debug>(
     alloc: Global,
     source: &mut Source<'_>,

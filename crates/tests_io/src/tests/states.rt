@@ -69,8 +69,7 @@ fn fills_of_any_size_read_the_same(rt: HostRuntime) -> Result<(), Fail> {
     is_told(alloc, &de.deserialize_any(alloc), "Ok(Bytes([97, 98, 99]))")
 }
 
-/// Fails where a read whose reader faults at this fill, and the end after it, answer anything
-/// else.
+/// Fails if a read whose reader faults at this fill, and the end after it, answer anything else.
 fn text_and_end(alloc: Global, fill: u64, told: &str) -> Result<(), Fail> {
     let mut de = Deserializer::from_reader(Pieces::failing(b"\x62ab", 1, fill));
     let answer = de.deserialize_any(alloc);
@@ -119,7 +118,7 @@ fn names(rt: HostRuntime) -> Result<(), Fail> {
     is_shown(rt.alloc(), &Name::new("any"), "any")
 }
 
-/// Fails where the value is shown as another text.
+/// Fails if the value is shown as another text.
 fn is_shown<T: Display>(alloc: Global, value: &T, wanted: &str) -> Result<(), Fail> {
     let text = format!(in alloc; "{value}")?;
     agree(text.as_str(), wanted)

@@ -14,7 +14,7 @@ use std::fmt::Debug;
 use std::test::Fail;
 use tests_shared::{Source, agree, is_told, joined};
 
-/// Fails where something else comes next, as text.
+/// Fails if something else comes next, as text.
 fn comes<'de, T: Deserialize<'de> + Debug, R: Read>(
     alloc: Global,
     stream: &mut StreamDeserializer<'de, R, T>,
@@ -26,7 +26,7 @@ where
     is_told(alloc, &stream.next(), told)
 }
 
-/// Fails where anything else comes than these, told in turn, and then nothing.
+/// Fails if anything else comes than these, told in turn, and then nothing.
 fn gives<'de, T: Deserialize<'de> + Debug, R: Read>(
     alloc: Global,
     mut stream: StreamDeserializer<'de, R, T>,
@@ -41,7 +41,7 @@ where
     comes(alloc, &mut stream, "None")
 }
 
-/// Fails where readers of the bytes give anything else as texts.
+/// Fails if readers of the bytes give anything else as texts.
 fn gives_texts(alloc: Global, bytes: &[u8], told: &[&str]) -> Result<(), Fail> {
     gives(alloc, iter_from_reader::<String, _>(alloc, bytes), told)?;
     let reader = Deserializer::from_reader(IoReader::new(bytes));
@@ -59,7 +59,7 @@ fn texts_one_behind_the_other(rt: HostRuntime) -> Result<(), Fail> {
     gives_texts(rt.alloc(), b"\x66foobar\x63ba", told)
 }
 
-/// Fails where a fault at this fill is not the last that comes.
+/// Fails if a fault at this fill is not the last that comes.
 fn is_fault(alloc: Global, fill: u64) -> Result<(), Fail> {
     let reader = Pieces::failing(b"\x83\x01\x02\x03", 1, fill);
     let stream = Deserializer::from_reader(reader).into_iter::<Ipld>(alloc);
@@ -130,7 +130,7 @@ fn gives_two(alloc: Global, bytes: &[u8], one: &Ipld, other: &Ipld) -> bool {
     }
 }
 
-/// Fails where the two blocks, one after the other, give another stream than the two.
+/// Fails if the two blocks, one after the other, give another stream than the two.
 pub(crate) fn is_split(alloc: Global, first: &[u8], second: &[u8]) -> Result<(), Fail> {
     let bytes = joined(alloc, &[first, second])?;
     let one: Ipld = from_slice(alloc, first)?;

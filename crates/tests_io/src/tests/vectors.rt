@@ -97,7 +97,7 @@ fn two_vectors_split_in_one_way(rt: HostRuntime) -> Result<(), Fail> {
     Ok(())
 }
 
-/// Fails where another block after this one gives another stream than the two.
+/// Fails if another block after this one gives another stream than the two.
 fn is_split_off(alloc: Global, first: &[u8], blocks: &[Vec<u8>]) -> Result<(), Fail> {
     for second in blocks {
         is_split(alloc, first, second)?;

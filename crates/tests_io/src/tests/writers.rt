@@ -8,12 +8,12 @@ use std::io::ErrorKind;
 use std::test::Fail;
 use tests_shared::{Sink, agree};
 
-/// Fails where the sink holds other bytes, or was called another number of times.
+/// Fails if the sink holds other bytes, or was called another number of times.
 fn is_held(sink: &Sink, held: &[u8], calls: u64) -> Result<(), Fail> {
     agree((sink.held(), sink.calls()), (held, calls))
 }
 
-/// Fails where a head of nine bytes goes out otherwise, to a sink that takes so many bytes a call.
+/// Fails if a head of nine bytes goes out otherwise, to a sink that takes so many bytes a call.
 fn goes_out(alloc: Global, size: usize, calls: u64) -> Result<(), Fail> {
     let mut writer = IoWriter::new(Sink::new(alloc, size, 0));
     push_head(&mut writer, 0, 4_294_967_296)?;

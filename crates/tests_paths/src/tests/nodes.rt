@@ -87,7 +87,7 @@ fn blocks(alloc: Global) -> Result<BTreeMap<Cid, Vec<u8>>, Fail> {
     Ok(blocks)
 }
 
-/// Fails where the path ends otherwise, or another item is given.
+/// Fails if the path ends otherwise, or another item is given.
 fn ends(alloc: Global, blocks: &BTreeMap<Cid, Vec<u8>>, root: &Cid, row: &Row) -> Result<(), Fail> {
     let (path, name, left, told, wanted) = *row;
     let Ok(resolved) = resolve(alloc, blocks, root, path) else {

@@ -149,7 +149,7 @@ const ROWS: &[(&str, &[u8], &str, &str)] = &[
     ("a/1/0", ROOT_NAME, "a/1/0", r#"NoSuchPath("0")"#),
 ];
 
-/// Fails where these are other names.
+/// Fails if these are other names.
 pub fn are_named(alloc: Global, names: &[Cid], forms: &[&[u8]]) -> Result<(), Fail> {
     agree(names.len(), forms.len())?;
     let mut left = forms;

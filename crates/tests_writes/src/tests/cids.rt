@@ -23,7 +23,7 @@ const NO_CIDS: &[(&[u8], &str)] = &[
     (b"\x01\x55\x00\x00\x00", "Err(TrailingBytes)"),
 ];
 
-/// Fails where the bytes are a CID, or none for another reason.
+/// Fails if the bytes are a CID, or none for another reason.
 fn is_no_cid(alloc: Global, bytes: &[u8], told: &str) -> Result<(), Fail> {
     is_told(alloc, &Cid::try_from(bytes), told)
 }
@@ -38,7 +38,7 @@ fn refuses_bytes_that_are_no_cid(rt: HostRuntime) -> Result<(), Fail> {
     agree(text.as_str(), "the CID is cut short")
 }
 
-/// Fails where the bytes have other parts: the version, the codec and the hash function, and the
+/// Fails if the bytes have other parts: the version, the codec and the hash function, and the
 /// digest; or where their CID is written otherwise.
 fn has_parts(
     alloc: Global,

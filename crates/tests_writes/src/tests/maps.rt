@@ -35,7 +35,7 @@ fn map_of_entries(
     Ok((answer, ser.into_inner().into_inner()))
 }
 
-/// Fails where a map is answered or written otherwise.
+/// Fails if a map is answered or written otherwise.
 pub(crate) fn is_ended(
     alloc: Global,
     map: Result<Ended, EncodeError<Infallible>>,

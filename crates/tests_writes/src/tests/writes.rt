@@ -79,7 +79,7 @@ fn maps_are_written_in_key_order(rt: HostRuntime) -> Result<(), Fail> {
     writes(alloc, &hashed(alloc, ["aa", "b"])?, spelling)
 }
 
-/// Fails where a key is taken for a text.
+/// Fails if a key is taken for a text.
 fn is_no_text<K: Serialize + Ord + Drop>(alloc: Global, key: K) -> Result<(), Fail> {
     is_unwritten(
         alloc,

@@ -30,8 +30,8 @@ const FOO_CUT: &[u8] =
 const INLINE_ROOT: &[u8] =
     b"\x23\xa2\x65\x72\x6f\x6f\x74\x73\x81\xd8\x2a\x4f\x00\x01\x71\x00\x0a\xd8\x2a\x47\x00\x01\x55\x13\x02\x05\x06\x67\x76\x65\x72\x73\x69\x6f\x6e\x01";
 
-/// The section of a block with the identity hash. It is a link by the identity hash to another such
-/// link, to a block that is a link to `OTHER`.
+/// The section of a block with the identity hash: a link by the identity hash to a link by the
+/// identity hash to a link to `OTHER`.
 const INLINE_TWICE: &[u8] =
     b"\x38\x01\x71\x00\x1a\xd8\x2a\x57\x00\x01\x71\x00\x12\xd8\x2a\x4f\x00\x01\x71\x00\x0a\xd8\x2a\x47\x00\x01\x55\x13\x02\x05\x06\xd8\x2a\x57\x00\x01\x71\x00\x12\xd8\x2a\x4f\x00\x01\x71\x00\x0a\xd8\x2a\x47\x00\x01\x55\x13\x02\x05\x06";
 
@@ -112,7 +112,7 @@ const FILES: &[(&[&[u8]], &[u8], &[&[u8]])] = &[
         b"B",
         &[],
     ),
-    // A link by the identity hash, to a block with such a link to a block that links to that CID.
+    // A link by the identity hash to a link by the identity hash to a link to that CID.
     (&[EMPTY, INLINE_TWICE], b"B", &[OTHER]),
 ];
 

@@ -85,7 +85,7 @@ fn a_record_is_proved_by_the_blocks_on_its_way(rt: HostRuntime) -> Result<(), Fa
         }
         let words = ["record-proof", key];
         says(alloc, &words, &file, (0, wanted.as_slice(), b""))?;
-        // The proof is accepted as its own input.
+        // The proof, as input, gives the same proof.
         says(alloc, &words, &wanted, (0, wanted.as_slice(), b""))?;
     }
     let words = ["record-proof", LAST_WORD, "FILE"];

@@ -48,12 +48,12 @@ abbrev pub LacksNode : Stored → CidParts → MstError → Type 0
 LacksNode stored root e = (name : CidParts) × IsLedTo most_layers stored root name
     × NodeFault stored name e
 
--- a node of the first tree is missing; or its root is not, but a node of the second is
+-- a node of the first tree is not read; or its root is, but a node of the second is not
 abbrev pub LacksOne : Stored → CidParts → CidParts → MstError → Type 0
 LacksOne stored old new e = LacksNode stored old e
     ⊎ (((p : NodeParts) × IsNodeAt stored old p) × LacksNode stored new e)
 
--- a node of either tree is missing; or the first tree is refused; or only the second is
+-- a node of either tree is not read; or the first tree is refused; or only the second is
 abbrev pub DiffRefused : Stored → CidParts → CidParts → MstError → Type 0
 DiffRefused stored old new e = LacksOne stored old new e ⊎ (MstRefused stored old e
     ⊎ ((es : List Entry) × IsMst stored old es × MstRefused stored new e))

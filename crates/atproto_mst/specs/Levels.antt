@@ -84,7 +84,7 @@ IsOfShape (error.OtherBytes name) = ⊥
 IsOfShape (error.NoNode name) = ⊥
 IsOfShape _ = ⊤
 
--- out of memory, a tree of another shape, or a link that leads to no node
+-- out of memory, wrong keys or a wrong shape, or a link that leads to no node
 abbrev pub LevelLinksRefused : Stored → List CidParts → MstError → Type 0
 LevelLinksRefused stored names e = (e ≡ error.OutOfMemory)
     ⊎ (IsOfShape e ⊎ ((name : CidParts) × Among name names × NodeFault stored name e))

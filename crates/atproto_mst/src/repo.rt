@@ -53,7 +53,8 @@ pub fn read_repo(
     }
 }
 
-/// Reads the commit that is stored under this CID, and checks that its bytes match the CID.
+/// Reads the commit that is stored under this CID, and checks that its bytes match the CID and that
+/// its version is 3.
 pub fn stored_commit(
     alloc: Global,
     blocks: &BTreeMap<Cid, Vec<u8>>,

@@ -26,10 +26,10 @@ use std::alloc::{AllocError, Global};
 use std::collections::BTreeMap;
 
 /// Returns the keys whose records differ between the trees with these roots, in key order. Subtrees
-/// that both trees have are skipped, so they need not be stored. If the roots are equal, there are
-/// no changes, and no block is read. No tree has a node below its root twice, so each is read once
-/// on the way down. If the keys or the shape of a tree are wrong, both trees are read whole, to
-/// find the reason. But an answer does not say that both are valid trees.
+/// that both trees have are skipped, so they need not be stored. Different roots are both read.
+/// Equal roots have no changes, and no block is read. No tree has a node below its root twice, so
+/// each is read once on the way down. If the keys or the shape of a tree are wrong, both trees are
+/// read whole, to find the reason. But an answer does not say that both are valid trees.
 pub fn diff(
     alloc: Global,
     blocks: &BTreeMap<Cid, Vec<u8>>,

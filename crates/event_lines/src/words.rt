@@ -20,7 +20,7 @@ fn behind<'a>(word: &str, file: Option<&'a str>) -> Option<EventWords<'a>>
     Some(EventWords { file })
 }
 
-/// Parses the arguments `event [FILE]`. They are not a command of their own: see
+/// Parses the arguments `event [FILE]`. They are not a command of `dagcar_lines`: see
 /// `laws::event_is_no_command`.
 pub fn event_of(args: &[String]) -> Option<EventWords<'_>>
     ensures { MatchOption result

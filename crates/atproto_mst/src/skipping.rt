@@ -1,4 +1,4 @@
-//! What differs between two trees, where the subtrees that both have are left out.
+//! The differences between two trees, found without reading the subtrees that both have.
 
 ghost use Rattle.std.specs.Prelude.{◌≡◌, ◌⊎◌, [], List, MatchResult, IfOk, IfErr};
 ghost use Rattle.ipld_links.specs.Reaching.{stored_in};

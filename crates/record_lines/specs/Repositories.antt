@@ -18,7 +18,7 @@ abbrev pub IsFileHeld : List ℕ → List CidParts → Stored → Type 0
 IsFileHeld b roots stored = (sections : List Section) × IsFile b (forms roots) sections
     × Stores which.All sections stored
 
--- the first holds of the first root of several; or there is no root, and the second holds
+-- `IsSo` holds of the first root, whatever the others are; or there is no root, and `IsNone` holds
 abbrev pub OfFirstRoot : (CidParts → Type 0) → Type 0 → List CidParts → Type 0
 OfFirstRoot IsSo IsNone (root ∷ others) = IsSo root
 OfFirstRoot IsSo IsNone [] = IsNone

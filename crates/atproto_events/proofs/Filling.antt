@@ -159,7 +159,7 @@ begins_behind k (p ∷ ps) b (first, more, s, f, e) (l, is, less) =
     let here = subst (λ x. StandsFor p.layer p.cid x first) is s in
     subst (ComesBefore k) (sym (e ∙ ap (λ x. x ++ more) here.1)) less
 
--- where the record that was found stands, or none was
+-- where the record is, or would be inserted
 abbrev IsPlace : List ℕ → List Entry → List Entry → Type 0
 IsPlace k a b = AllBefore k a × ComesBefore k b × Rise b
 

@@ -1,4 +1,4 @@
--- Subtrees that are not opened, and what stands beside them.
+-- Subtrees that are not opened, and the pieces beside them.
 use Rattle.std.proofs.Common.{◌≡◌, ◌≢◌, ◌⊎◌, inl, inr, ℕ, suc, ◌<◌, ◌≤◌, Bool, true, false, List, [], ◌∷◌, ◌++◌, None, refl, sym, ap, ◌∙◌, subst, arith, ltb-true, append_assoc, append-nil, Result, Ok, Err, IfErr}
 use Rattle.std.specs.Prelude.{if◌then◌else◌, nat_lt}
 use Rattle.ipld_tree.specs.Cid.{CidParts}
@@ -85,7 +85,7 @@ lower_rest : (n : ℕ) (a b : List PieceParts) → AreLower n (a ++ b) → AreLo
 lower_rest n [] b h = h
 lower_rest n (x ∷ a) b h = lower_rest n a b h.1
 
--- a subtree of layer n stands after these
+-- a subtree of layer n comes after these
 pub met_subtree : (n : ℕ) (all done rest : List PieceParts) (name : CidParts) → AreLower (suc n) all → all ≡ done ++ (subtree_piece n name ∷ rest) → FirstOrFault n all (error.MissingNode name)
 met_subtree n all [] rest name low is = inr (name, rest, refl, is)
 met_subtree n all (p ∷ done) rest name low is =
@@ -112,7 +112,7 @@ all_or_alone n all (p ∷ lower) upper e low is (inr (name, rest, missing, first
       beside = inl (ends_lower n p lower (lower_front (suc n) (p ∷ lower) upper (subst (AreLower (suc n)) is low)));
     })
 
--- where it is not the only one
+-- if it is not the only piece
 pub not_alone : (n : ℕ) (ps : List PieceParts) (e : UndoError) → ((name : CidParts) → ps ≢ subtree_piece n name ∷ []) → AloneOrFault n ps e → NodeFault ps e
 not_alone n ps e other (inl h) = h
 not_alone n ps e other (inr (name, missing, is)) = absurd (other name is)

@@ -1,4 +1,4 @@
--- Changes that are undone on the pieces of a tree lead from the root that these name.
+-- If changes are undone on the pieces of a tree, they lead from the root computed from these.
 use Rattle.std.proofs.Common.{List, [], ◌∷◌, refl, sym, subst}
 use Rattle.atproto_mst.specs.Keys.{Entry, HaveRisingKeys}
 use Rattle.atproto_mst.specs.Changes.{Changed}

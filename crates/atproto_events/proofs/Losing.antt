@@ -1,4 +1,4 @@
--- A node that is told to be missing is not stored.
+-- A node that is reported as missing is not stored.
 use Rattle.std.proofs.Common.{◌≡◌, inl, inr, ℕ, zero, suc, List, [], ◌∷◌, ◌++◌, Option, None, Some, refl, sym, subst}
 use Rattle.std.specs.List.{AllByRecursion}
 use Rattle.ipld_tree.specs.Cid.{CidParts}

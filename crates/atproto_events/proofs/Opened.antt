@@ -1,4 +1,4 @@
--- The pieces that a tree is opened to stand for its entries.
+-- The pieces of an opened tree stand for its entries.
 use Rattle.std.proofs.Common.{◌≡◌, ◌⊎◌, inl, inr, ℕ, zero, suc, ◌<◌, ◌≤◌, Bool, true, false, List, [], ◌∷◌, ◌++◌, Option, Some, None, refl, sym, ap, ◌∙◌, subst, arith, ltb-true, ltb-false}
 use Rattle.std.specs.Prelude.{if◌then◌else◌, nat_lt}
 use Rattle.std.specs.List.{AllByRecursion}
@@ -54,7 +54,7 @@ none_there zero (e ∷ es) b h = absurd (omega (arith, b.0))
 none_there (suc n) [] b h = refl
 none_there (suc n) (e ∷ es) b h = absurd (cc h)
 
--- the nodes of a tree are stored somewhere, and what is stored under their names are those nodes
+-- if two stores have a node under the same name, it is the same node
 abbrev Agree : Stored → Stored → Type 0
 Agree stored other = (name : CidParts) (p q : NodeParts) → IsNodeAt stored name p → IsNodeAt other name q → p ≡ q
 
@@ -172,7 +172,7 @@ below_top n (e ∷ es) b = inr (by (below_top n es b.1))
     by (inl none) = omega (arith, b.0, ap top_layer none)
     by (inr less) = omega (arith, b.0, less)
 
--- the first row is of the layer; or there is none, and all leaves are lower
+-- the first row is of the layer; or there is no such row, and all leaves are lower
 first_by : (sub : List Leaf → Option CidParts) (n : ℕ) (e : Leaf) (es : List Leaf) (b : Bool) → nat_lt e.layer n ≡ b → IsLeaf e → e.layer < suc n
     → (first_layer (rows_over sub n [] es) ≡ n) ⊎ ((rows_over sub n [] es ≡ []) × AreBelow n es)
     → (first_layer (if b then rows_over sub n [] es else row_at [] e (sub (lower_run n es)) ∷ rows_over sub n e.key es) ≡ n)

@@ -16,7 +16,7 @@ use Rattle.atproto_events.specs.declared.error.UndoError.{UndoError}
 use Rattle.atproto_events.specs.declared.error.UndoError.TheVariants as error
 use Rattle.repository_types.specs.declared.repository.Entry.{Entry as Row}
 
--- of a node of layer n whose rows are these, those from a place on are left
+-- in a node of layer n, the rows that remain continue the pieces of all rows
 abbrev pub GoesOn : (CidParts → List PieceParts → Type 0) → ℕ → Option CidParts → List NodeRow → List PieceParts → List ℕ → List NodeRow → List PieceParts → Type 0
 GoesOn F n left rows old key rest now = (below : List PieceParts) × OpensLink F left below
     × ((more : List PieceParts) → OpensRows F n key rest more → (whole : List PieceParts) × OpensRows F n [] rows whole × (old ++ (below ++ whole) ≡ now ++ more))
@@ -197,7 +197,7 @@ no_key_last p ps none = by (last_key ps) refl
     by None is = last_by p ps false (ap is_some is) ∙ none ∙ sym is
     by (Some k) is = key_last k p ps is ∙ sym is
 
--- where the pieces from a place on are subtrees, the last key is that of those before it
+-- if the pieces after a place are subtrees, the last key is that of the piece at the place
 pub last_found : (i : ℕ) (ps : List Piece) (d : Piece) (k : List ℕ) → i < length ps → get_or ps i d ≡ d → (piece_of d).key ≡ Some k → last_key (drop (suc i) (pieces ps)) ≡ None → last_key (pieces ps) ≡ Some k
 last_found i [] d k lt is key none = absurd (omega (arith, lt))
 last_found zero (p ∷ ps) d k lt is key none = last_by (piece_of p) (pieces ps) false (ap is_some none) ∙ ap (λ x. (piece_of x).key) is ∙ key

@@ -71,7 +71,7 @@ ends_next key i ps d lt is h =
 shorter : (i : ℕ) (p : PieceParts) (ps : List PieceParts) → drop i ps ≡ p ∷ ps → ⊥
 shorter i p ps h = absurd (omega (arith, ap length h, length-drop i ps))
 
--- Where the next entry from a place on is far, it is the next from places between too.
+-- If the next entry after a place is far, it is also the next after the places between.
 pub same_entry : (m h a : ℕ) (xs : List PieceParts) → m ≤ h → h ≤ a → a ≤ length xs → drop a xs ≡ from_entry (drop m xs) → drop a xs ≡ from_entry (drop h xs)
 same_entry zero zero a xs le far within e = e
 same_entry zero (suc h) zero xs le far within e = absurd (omega (arith, far))
@@ -86,7 +86,7 @@ same_entry (suc m) (suc h) zero xs le far within e = absurd (omega (arith, far))
 same_entry (suc m) (suc h) (suc a) [] le far within e = absurd (omega (arith, within))
 same_entry (suc m) (suc h) (suc a) (x ∷ xs) le far within e = same_entry m h a xs (omega (arith, le)) (omega (arith, far)) (omega (arith, within)) e
 
--- of a part that begins with an entry not before the key
+-- the part begins with an entry that does not come before the key
 pub not_before : (key : List ℕ) (m a : ℕ) (ps : List Piece) (d : Piece) → drop a (pieces ps) ≡ from_entry (drop m (pieces ps)) → a < length ps → get_or ps a d ≡ d
     → comes_before key (piece_of d).key ≡ false → IsNotBefore key (from_entry (drop m (pieces ps)))
 not_before key m a ps d e lt is h = subst (IsNotBefore key) (sym (piece_at a ps d lt is) ∙ e) h
@@ -103,7 +103,7 @@ behind_key : (key : List ℕ) (o : Option (List ℕ)) → is_some o ≡ true →
 behind_key key None h n other = absurd (cc h)
 behind_key key (Some k) h n other = (k, refl, not_less k key (slice_cmp nat_cmp k key) refl n (λ e. other (ap Some e)))
 
--- the key that would stand first is not there
+-- a key that would come first is absent
 begins : (key : List ℕ) (xs ys : List PieceParts) → ys ≡ from_entry xs → IsNotBefore key ys → ¬ IsOfKey key 0 ys → BeginsBehind key ys
 begins key [] ys e n other = subst (BeginsBehind key) (sym e) tt
 begins key (x ∷ xs) ys e n other = by (is_some x.key) refl e (λ q. begins key xs ys q n other)

@@ -1,4 +1,4 @@
--- Of a tree that is opened each entry is in the layer of its key.
+-- Each entry of an opened tree is in the layer of its key.
 use Rattle.std.proofs.Common.{inl, inr, ℕ, zero, suc, List, [], ◌∷◌, Option, None, Some, sym, subst}
 use Rattle.ipld_tree.specs.Cid.{CidParts}
 use Rattle.ipld_links.specs.Reaching.{Stored}

@@ -76,7 +76,7 @@ other_record key i ps d after is k placed other = (
   λ same. other (sym same),
 )
 
--- nothing changes, where there was none and is none
+-- nothing changes if there was no record and there is no record
 pub left_so : (c : Changed) (i : ℕ) (xs : List PieceParts) → EndsBefore c.0 (take i xs) → BeginsBehind c.0 (drop i xs) → c.1.1 ≡ None → c.1.0 ≡ None → StepsBack c xs xs
 left_so c i xs front rest new_is old_is = record {
   front = take i xs;
@@ -110,7 +110,7 @@ no_record key i xs after front rest other = (
   λ same. other (sym same),
 )
 
--- a subtree stands there
+-- a subtree is at this place
 hides : (key : List ℕ) (m : ℕ) (xs : List PieceParts) (p : PieceParts) (ys : List PieceParts) → EndsBefore key (take m xs) → drop m xs ≡ p ∷ ys → p.key ≡ None → BeginsBehind key (from_entry ys) → HidesKey key p.cid xs
 hides key m xs p ys front split none behind = record {
   front = take m xs;

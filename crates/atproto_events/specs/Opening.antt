@@ -15,8 +15,8 @@ use Rattle.atproto_events.specs.Pieces.{PieceParts, OpensLink, OpensBelow}
 use Rattle.atproto_events.specs.declared.error.UndoError.{UndoError}
 use Rattle.atproto_events.specs.declared.error.UndoError.TheVariants as error
 
--- What is stored under the name is not read: memory is wanted, the bytes are not those that it names, or
--- they are no node.
+-- What is stored under the name is not read: out of memory, the bytes do not match the name, or
+-- they are not a node.
 abbrev pub UnreadNode : Stored → CidParts → UndoError → Type 0
 UnreadNode stored name error.OutOfMemory = IsStoredNamed stored name
 UnreadNode stored name (error.OtherBytes other) = (other ≡ name)
@@ -32,34 +32,34 @@ abbrev pub last_key : List PieceParts → Option (List ℕ)
 last_key [] = None
 last_key (p ∷ ps) = if is_some (last_key ps) then last_key ps else p.key
 
--- the key comes after this one, if there is one
+-- the key comes after the other key, if there is one
 abbrev pub comes_behind : List ℕ → Option (List ℕ) → Bool
 comes_behind key None = true
 comes_behind key (Some other) = is_lt (slice_cmp nat_cmp other key)
 
--- one of the pieces is the subtree of this name
+-- one of the pieces is the subtree of this name, not opened
 abbrev pub HoldsSubtree : CidParts → List PieceParts → Type 0
 HoldsSubtree name [] = ⊥
 HoldsSubtree name (p ∷ ps) = ((p.key ≡ None) × (p.cid ≡ name)) ⊎ HoldsSubtree name ps
 
--- each CID of the set names a subtree of these pieces
+-- each CID of the set names a subtree among the pieces
 abbrev pub AreHeld : CidSet → List PieceParts → Type 0
 AreHeld lost ps = (q : CidParts) → Among q (members lost) → HoldsSubtree q ps
 
 -- ---- why the walk stops, after the pieces that it has
 
--- The row of a node of layer n shares more bytes than the key before it in its node has, its key is no
--- key, is of another layer, or comes not after the last key.
+-- A row does not belong in a node of layer n: it shares more bytes than the key before it has, its
+-- key is not valid or is of another layer, or its key does not come after the last key.
 abbrev pub RowUnfit : ℕ → List PieceParts → List ℕ → NodeRow → Type 0
 RowUnfit n before previous r = (length previous < r.shared) ⊎ ((¬ IsKey (key_of_row previous r))
     ⊎ ((key_layer (key_of_row previous r) ≢ n) ⊎ (comes_behind (key_of_row previous r) (last_key before) ≡ false)))
 
--- in what the link leads to
+-- why opening a link stops: a fault in the subtree under it
 abbrev pub LinkStops : (List PieceParts → CidParts → UndoError → Type 0) → List PieceParts → Option CidParts → UndoError → Type 0
 LinkStops S before None e = ⊥
 LinkStops S before (Some name) e = S before name e
 
--- at a row; else in the tree after it; else at a later row, where links are opened so
+-- at a row; else in the subtree after it; else at a later row
 abbrev pub RowsStop : (CidParts → List PieceParts → Type 0) → (List PieceParts → CidParts → UndoError → Type 0)
     → ℕ → List PieceParts → List ℕ → List NodeRow → UndoError → Type 0
 RowsStop F S n before previous [] e = ⊥
@@ -69,14 +69,14 @@ RowsStop F S n before previous (r ∷ rs) e = ((e ≡ error.OtherTree) × RowUnf
     × RowsStop F S n (before ++ (record { layer = n; key = Some (key_of_row previous r); cid = r.value } ∷ below))
     (key_of_row previous r) rs e))
 
--- in the tree before the first key; else at a row
+-- in the subtree before the first key; else at a row
 abbrev pub NodeStops : (CidParts → List PieceParts → Type 0) → (List PieceParts → CidParts → UndoError → Type 0)
     → ℕ → List PieceParts → NodeParts → UndoError → Type 0
 NodeStops F S n before p e = LinkStops S before p.left e
     ⊎ ((below : List PieceParts) × OpensLink F p.left below × RowsStop F S n (before ++ below) [] p.rows e)
 
--- Right below layer n: below layer 0 there is no node; the node is not read; it is not stored, and was
--- met before; it is empty; or in it.
+-- Right below layer n: there is no node below layer 0; the node is not read; it is not stored, and
+-- was met before; it is empty; or a fault in it.
 abbrev pub StopsBelow : Stored → ℕ → List PieceParts → CidParts → UndoError → Type 0
 StopsBelow stored zero before name e = e ≡ error.OtherTree
 StopsBelow stored (suc n) before name e = UnreadNode stored name e
@@ -84,7 +84,7 @@ StopsBelow stored (suc n) before name e = UnreadNode stored name e
     ⊎ ((p : NodeParts) × IsNodeAt stored name p × (((e ≡ error.OtherTree) × IsEmpty p)
     ⊎ NodeStops (OpensBelow stored n) (StopsBelow stored n) n before p e)))
 
--- The root is not there, or it is not read; or memory is wanted below it, or the walk from it stops.
+-- The root is missing, or not read; or out of memory below it, or a fault of the walk from it.
 abbrev pub TreeFault : Stored → CidParts → UndoError → Type 0
 TreeFault stored root e = ((e ≡ error.MissingNode root) × (stored root ≡ None)) ⊎ (UnreadNode stored root e
     ⊎ ((p : NodeParts) × IsNodeAt stored root p × ((e ≡ error.OutOfMemory)

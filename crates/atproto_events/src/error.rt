@@ -1,4 +1,4 @@
-//! Why operations are not undone.
+//! Why changes are not undone.
 
 ghost use Rattle.std.specs.Prelude.{◌≡◌};
 
@@ -6,28 +6,28 @@ use ipld_tree::Cid;
 use std::alloc::AllocError;
 use thiserror::Error;
 
-/// Why changes are not undone. A CID is the name of the node.
+/// Why changes are not undone. A CID is that of the node concerned.
 #[derive(Debug, Clone, Copy, Drop, PartialEq, Eq, Error)]
 pub enum UndoError {
-    /// Memory was wanted.
+    /// Out of memory.
     #[error("out of memory")]
     OutOfMemory,
-    /// Nothing is stored under the name, and the changes cannot be undone without.
+    /// No block is stored under this CID, and the changes cannot be undone without it.
     #[error("a node is missing")]
     MissingNode(Cid),
-    /// The bytes under the name are not those that it names as a block.
+    /// The bytes stored under this CID do not match it.
     #[error("under the name of a node other bytes are stored")]
     OtherBytes(Cid),
-    /// The block under the name is no node.
+    /// The block under this CID is not a node.
     #[error("a block is no node")]
     NoNode(Cid),
-    /// The nodes are not those of a tree: keys that do not rise, or stand in other layers.
+    /// The nodes are not those of a tree: keys do not rise, or are in other layers.
     #[error("the nodes are not those of a tree")]
     OtherTree,
-    /// The key of a change has no byte, or more than 1024.
+    /// The key of a change is empty, or has more than 1024 bytes.
     #[error("a key has no byte, or more than 1024")]
     KeyLength,
-    /// The tree has not what a change leads to.
+    /// The tree does not have the record that a change leads to.
     #[error("the tree has not what a change leads to")]
     OtherState,
 }

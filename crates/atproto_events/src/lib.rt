@@ -1,5 +1,5 @@
-//! Changes of an AT Protocol repository, undone on a tree of which some nodes are there: whether
-//! the operations of a commit lead to it from the tree that one knew.
+//! Undoes changes of an AT Protocol repository on a tree that is stored only in part. This checks
+//! whether the operations of a commit lead to it from the tree known before.
 #![tactic(auto)]
 
 mod error;

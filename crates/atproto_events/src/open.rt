@@ -1,4 +1,4 @@
-//! The pieces of a tree of which some nodes are stored.
+//! Opening a partly stored tree as pieces.
 
 ghost use Rattle.std.specs.Prelude.{◌≡◌, ◌⊎◌, ◌++◌, IsTrue, [], ◌∷◌, List, None, Some, map};
 ghost use Rattle.std.specs.Prelude.{option_map, MatchOption, IfOk, OnOk, IfErr};
@@ -26,10 +26,10 @@ use repository_types::{Entry as Row, Node};
 use std::alloc::Global;
 use std::collections::BTreeMap;
 
-/// The greatest length of a key.
+/// The greatest length of a key, in bytes.
 pub(crate) const LONGEST_KEY: usize = 1024;
 
-/// The pieces of the tree of this root, whose node is stored.
+/// Returns the pieces of the tree of this root, whose node must be stored.
 pub(crate) fn open_tree(
     alloc: Global,
     blocks: &BTreeMap<Cid, Vec<u8>>,
@@ -54,7 +54,7 @@ pub(crate) fn open_tree(
     Ok(found)
 }
 
-/// The layer of the first key of a root, and 0 without one.
+/// Returns the layer of the root's first key, or 0 if it has no entry.
 fn root_layer(root: &Node) -> u8
     ensures { result ≡ first_layer (node_told root.now).rows }
 {
@@ -64,7 +64,7 @@ fn root_layer(root: &Node) -> u8
     }
 }
 
-/// The node of this name, if it is stored.
+/// Reads the node of this CID, or returns `None` if it is not stored.
 fn find_node(
     alloc: Global,
     blocks: &BTreeMap<Cid, Vec<u8>>,
@@ -93,7 +93,7 @@ fn find_node(
     }
 }
 
-/// Does nothing. What is known of a CID comes with its version.
+/// Does nothing. Calling `version` gives the proof that the link is a CID.
 fn has_cid(link: &Option<Cid>)
     ensures { IsCidIfAny link.now }
 {
@@ -102,7 +102,7 @@ fn has_cid(link: &Option<Cid>)
     }
 }
 
-/// So it is of the CIDs of entries.
+/// Does the same for the CIDs of the entries.
 fn have_cids(rows: &[Row])
     ensures { AllByRecursion (λ r. AreCidParts r.value × IsCidIfAny r.after)
         (map row_told rows.now) }
@@ -141,8 +141,8 @@ fn open_node(
     Ok(())
 }
 
-/// Appends the pieces of the tree after the link, if there is one, below this layer: one, where its
-/// node is not stored.
+/// Appends the pieces of the subtree under the link, which must be right below this layer. If its
+/// root is not stored, it is one piece.
 #[cycle(open)]
 fn open_link(
     alloc: Global,
@@ -175,14 +175,15 @@ fn open_link(
     open_node(alloc, blocks, &node, layer, lost, found)
 }
 
-/// Whether the node has no entry, and no tree below it. Only a root may be so.
+/// Returns whether the node has neither entries nor a subtree, which is allowed only in a root.
 fn is_empty(node: &Node) -> bool
     ensures { IsTrue result → IsEmpty (node_told node.now) }
 {
     node.l.is_none() && node.e.is_empty()
 }
 
-/// Appends a subtree that is not opened. No tree has one twice.
+/// Appends a subtree that is not opened. Refuses one that was met before: no tree has a subtree
+/// twice.
 fn push_subtree(
     layer: u8,
     name: &Cid,
@@ -203,7 +204,7 @@ fn push_subtree(
     push_piece(layer, None, *name, found)
 }
 
-/// Appends the entry of a row, and makes its key of the one before it.
+/// Appends the entry of a row. Turns `key`, the key of the row before, into that of this row.
 fn push_row(
     alloc: Global,
     row: &Row,
@@ -237,8 +238,8 @@ fn push_row(
     push_piece(layer, Some(key), row.v, found)
 }
 
-/// Whether the last of the entries, if there is one, comes before the key. Of two pieces next to
-/// each other one is an entry.
+/// Returns whether the last entry, if there is one, comes before the key. One of any two adjacent
+/// pieces is an entry.
 fn comes_last(found: &[Piece], key: &[u8]) -> bool
     ensures { result ≡ comes_behind key.now (last_key (pieces found.now)) }
 {

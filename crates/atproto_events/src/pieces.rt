@@ -1,4 +1,4 @@
-//! Pieces of a tree of which some nodes are there.
+//! The pieces of a partly stored tree.
 
 ghost use Rattle.std.specs.Prelude.{◌≡◌, ◌≤◌, length, take, drop};
 ghost use Rattle.atproto_events.specs.Pieces.{pieces, piece_of, lower_pieces, upper_pieces};
@@ -7,18 +7,18 @@ ghost use Rattle.atproto_events.specs.Undone.{comes_before, from_entry, EndsBefo
 
 use ipld_tree::Cid;
 
-/// An entry, or a subtree of which no node is there.
+/// An entry, or a subtree that is not stored.
 #[derive(Drop)]
 pub(crate) struct Piece {
     /// The layer of the key, or of the subtree's root.
     pub layer: u8,
-    /// None of a subtree.
+    /// The key of an entry, `None` for a subtree.
     pub key: Option<Vec<u8>>,
-    /// The record, or the name of the subtree's root.
+    /// The record of an entry, or the CID of the subtree's root.
     pub cid: Cid,
 }
 
-/// The pieces before the first that is not below the layer, and the others.
+/// Splits the pieces before the first that is not below the layer.
 pub(crate) fn split_lower(all: &[Piece], layer: u8) -> (&[Piece], &[Piece])
     ensures lower { pieces result.0.now ≡ lower_pieces layer (pieces all.now) }
     ensures rest { pieces result.1.now ≡ upper_pieces layer (pieces all.now) }
@@ -27,7 +27,7 @@ pub(crate) fn split_lower(all: &[Piece], layer: u8) -> (&[Piece], &[Piece])
     all.split_at(count_lower(all, layer))
 }
 
-/// How many pieces stand before the first that is not below the layer.
+/// Returns how many pieces come before the first that is not below the layer.
 fn count_lower(all: &[Piece], layer: u8) -> usize
     ensures count { result ≡ length (lower_pieces layer (pieces all.now)) }
     ensures bound { result ≤ length all.now }
@@ -42,7 +42,7 @@ fn count_lower(all: &[Piece], layer: u8) -> usize
     count
 }
 
-/// The greatest layer of a piece, and 0 without pieces.
+/// Returns the greatest layer of a piece, or 0 if there are no pieces.
 pub(crate) fn top_of(all: &[Piece]) -> u8
     ensures { result ≡ top_piece (pieces all.now) }
 {
@@ -53,7 +53,7 @@ pub(crate) fn top_of(all: &[Piece]) -> u8
     top
 }
 
-/// The first entry at or after this place, or the end.
+/// Returns the index of the first entry at or after `from`, or the length if there is no entry.
 pub(crate) fn next_entry(all: &[Piece], from: usize) -> usize
     requires { from ≤ length all.now }
     ensures entry { drop result (pieces all.now) ≡ from_entry (drop from (pieces all.now)) }
@@ -70,8 +70,8 @@ pub(crate) fn next_entry(all: &[Piece], from: usize) -> usize
     at
 }
 
-/// The place of the key among pieces whose keys rise: what stands right before it is an entry
-/// whose key comes before this one, and the next entry has this key or a later one.
+/// Returns the index of the key among pieces whose keys rise. The piece right before it, if there
+/// is one, is an entry with a smaller key, and the next entry has this key or a greater one.
 pub(crate) fn find_place(all: &[Piece], key: &[u8]) -> usize
     ensures bound { result ≤ length all.now }
     ensures front { EndsBefore key.now (take result (pieces all.now)) }
@@ -91,7 +91,7 @@ pub(crate) fn find_place(all: &[Piece], key: &[u8]) -> usize
     low
 }
 
-/// Whether the piece is an entry whose key comes before this key.
+/// Returns whether the piece is an entry whose key comes before this key.
 fn is_before(piece: &Piece, key: &[u8]) -> bool
     ensures { result ≡ comes_before key.now (piece_of piece.now).key }
 {

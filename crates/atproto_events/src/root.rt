@@ -1,4 +1,4 @@
-//! The root of the tree that pieces make.
+//! Computing the root of the tree that pieces make.
 
 ghost use Rattle.std.specs.Prelude.{◌≡◌, ◌≢◌, ◌≤◌, [], ◌∷◌, suc, List, length, map, IfOk, IfErr};
 ghost use Rattle.std.specs.Prelude.{MatchOption};
@@ -22,8 +22,8 @@ use ipld_tree::{Bytes, Cid};
 use repository_types::{Entry, Node};
 use std::alloc::{AllocError, Global};
 
-/// The name of the root of the tree of the entries that the pieces stand for. Refused where it
-/// depends on what is in a subtree that is not there.
+/// Returns the root CID of the tree of the entries that the pieces stand for. Refused if it depends
+/// on the content of a subtree that is not stored.
 pub(crate) fn root_of_pieces(alloc: Global, all: &[Piece]) -> Result<Cid, UndoError>
     ensures named { IfOk result (NamesRoot (pieces all.now)) }
     ensures refused { IfErr result (RootFault (pieces all.now)) }
@@ -31,7 +31,8 @@ pub(crate) fn root_of_pieces(alloc: Global, all: &[Piece]) -> Result<Cid, UndoEr
     node_of(alloc, all, top_of(all))
 }
 
-/// The name of the node over pieces that are all below the layer, if there are any.
+/// Returns the CID of the node over pieces that are all below the layer, or `None` if there are no
+/// pieces.
 #[cycle(build)]
 fn subtree_of(alloc: Global, all: &[Piece], layer: u8) -> Result<Option<Cid>, UndoError>
     requires { AreLower layer (pieces all.now) }
@@ -48,7 +49,7 @@ fn subtree_of(alloc: Global, all: &[Piece], layer: u8) -> Result<Option<Cid>, Un
     Ok(Some(name))
 }
 
-/// The name of the one piece, if it is a subtree of the layer.
+/// Returns the CID of the only piece, if it is a subtree of this layer.
 fn lone_subtree(all: &[Piece], layer: u8) -> Option<Cid>
     ensures { MatchOption result
         ((name : CidParts) → pieces all.now ≢ subtree_piece layer name ∷ [])
@@ -61,7 +62,7 @@ fn lone_subtree(all: &[Piece], layer: u8) -> Option<Cid>
     Some(one.cid)
 }
 
-/// The name of the node of the layer over pieces of which none is above it.
+/// Returns the CID of the node of this layer over pieces that are not above it.
 #[cycle(build)]
 fn node_of(alloc: Global, all: &[Piece], layer: u8) -> Result<Cid, UndoError>
     requires { AreLower (suc layer) (pieces all.now) }
@@ -76,7 +77,7 @@ fn node_of(alloc: Global, all: &[Piece], layer: u8) -> Result<Cid, UndoError>
     name_of_node(alloc, &Node { l: left, e: rows })
 }
 
-/// The rows of a node of the layer over pieces, of which the first is not below it.
+/// Returns the rows of a node of this layer over pieces, the first of which must not be below it.
 #[cycle(build)]
 fn rows_of(alloc: Global, all: &[Piece], layer: u8) -> Result<Vec<Entry>, UndoError>
     requires tops { lower_pieces layer (pieces all.now) ≡ [] }
@@ -103,7 +104,7 @@ fn rows_of(alloc: Global, all: &[Piece], layer: u8) -> Result<Vec<Entry>, UndoEr
     Ok(rows)
 }
 
-/// The row of an entry after this key, before the node.
+/// Returns the row of an entry that follows this key, with this subtree after it.
 fn row_of(
     alloc: Global,
     previous: &[u8],
@@ -124,7 +125,7 @@ fn row_of(
     })
 }
 
-/// How many bytes the second key shares with the first.
+/// Returns how many leading bytes the two keys share.
 fn shared_front(first: &[u8], second: &[u8]) -> usize
     ensures value { result ≡ shared first.now second.now }
     ensures bound { result ≤ length second.now }
@@ -138,13 +139,13 @@ fn shared_front(first: &[u8], second: &[u8]) -> usize
     most
 }
 
-/// The name of the node.
+/// Returns the CID of the node.
 fn name_of_node(alloc: Global, node: &Node) -> Result<Cid, UndoError>
     ensures named { IfOk result
         (λ name. name ≡ block_name (spelling (tree_of_node (node_told node.now)))) }
     ensures refused { IfErr result (λ e. e ≡ OutOfMemory) }
 {
-    // Each node has a spelling, which is refused for want of memory alone.
+    // Every node can be encoded, so the only refusal is out of memory.
     match to_vec(alloc, node) {
         Ok(block) => Ok(name_of_block(&block)),
         Err(_) => Err(UndoError::OutOfMemory),

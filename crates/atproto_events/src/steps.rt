@@ -1,4 +1,4 @@
-//! One change undone.
+//! Undoing one change.
 
 ghost use Rattle.std.specs.Prelude.{◌≡◌, ◌<◌, ◌≤◌, length, take, drop, IfOk, OnOk, IfErr};
 ghost use Rattle.std.specs.Prelude.{MatchBool};
@@ -15,7 +15,8 @@ use atproto_mst::{Change, layer_of_key};
 use ipld_tree::Cid;
 use std::alloc::Global;
 
-/// Undoes the change on the pieces: what it leads to must be there, and what was before is.
+/// Undoes the change on the pieces: the key must have the record after the change, and then has the
+/// one before.
 pub(crate) fn undo_change(
     alloc: Global,
     all: &mut Vec<Piece>,
@@ -37,7 +38,7 @@ pub(crate) fn undo_change(
     undo_absent(alloc, all, at, change)
 }
 
-/// Whether the piece at this place, if there is one, is an entry of the key.
+/// Returns whether the piece at this index, if there is one, is an entry with this key.
 fn is_of_key(all: &[Piece], at: usize, key: &[u8]) -> bool
     ensures { MatchBool result (IsOfKey key.now at (pieces all.now))
         (¬ IsOfKey key.now at (pieces all.now)) }
@@ -51,7 +52,7 @@ fn is_of_key(all: &[Piece], at: usize, key: &[u8]) -> bool
     }
 }
 
-/// Undoes a change whose key is that of the piece at this place.
+/// Undoes a change whose key is that of the piece at this index.
 fn undo_present(all: &mut Vec<Piece>, at: usize, change: &Change) -> Result<(), UndoError>
     requires bound { at < length all.old.items }
     requires key { IsOfKey change.now.key.items at (pieces all.old.items) }
@@ -75,7 +76,7 @@ fn undo_present(all: &mut Vec<Piece>, at: usize, change: &Change) -> Result<(), 
     Ok(())
 }
 
-/// Undoes a change whose key is not there, and would stand at this place.
+/// Undoes a change whose key is absent, and would be inserted at this index.
 fn undo_absent(
     alloc: Global,
     all: &mut Vec<Piece>,
@@ -106,7 +107,7 @@ fn undo_absent(
     }
 }
 
-/// A piece of this entry.
+/// Returns a piece of this entry.
 fn new_piece(alloc: Global, key: &[u8], cid: Cid) -> Result<Piece, UndoError>
     ensures piece { IfOk result (λ p. piece_of p ≡ entry_piece key.now cid) }
     ensures refused { IfErr result (λ e. e ≡ OutOfMemory) }

@@ -1,4 +1,4 @@
-//! Changes undone.
+//! Undoing changes.
 
 ghost use Rattle.std.specs.Prelude.{IfOk, OnOk, IfErr};
 ghost use Rattle.ipld_links.specs.Reaching.{stored_in};
@@ -18,8 +18,8 @@ use ipld_tree::Cid;
 use std::alloc::Global;
 use std::collections::BTreeMap;
 
-/// The root of the tree from which these changes, one after the other, lead to the tree of this
-/// root. Of that one the nodes must be stored on which the answer depends, and no others.
+/// Returns the root of the tree from which these changes, in order, lead to the tree of this root.
+/// Only those nodes of that tree on which the answer depends must be stored.
 pub fn undo_changes(
     alloc: Global,
     blocks: &BTreeMap<Cid, Vec<u8>>,

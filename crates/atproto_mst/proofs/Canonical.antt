@@ -77,7 +77,7 @@ stored_apart stored (x ∷ xs) b h = let k = stored_apart stored xs b h.1 in ((h
 
 -- ---- the walk
 
--- the trees over leaves below layer n are walked, where they are stored
+-- W gives the entries of each subtree over leaves below layer n, if it is stored
 abbrev pub WalksBelow : Stored → ℕ → (CidParts → List Entry → Type 0) → Type 0
 WalksBelow stored n W = (es : List Leaf) → AreBelow n es → AreLeaves es → AreStored stored (subtree_nodes n es) → WalksLink W (subtree n es) (entries_under es)
 
@@ -101,7 +101,8 @@ rows_by W stored n previous e es false skip below next h =
       ),
     )
 
--- the rows of a node, after a key: the entries of its first leaf of the layer, and of all after it
+-- the rows of a node that follow a key: the entries of its first leaf of the layer, and of all
+-- leaves after it
 rows_walked : (W : CidParts → List Entry → Type 0) (stored : Stored) (n : ℕ) → WalksBelow stored n W → (previous : List ℕ) (es : List Leaf) → AreLeaves es
     → AreStored stored (nodes_between (subtree_nodes n) n es) → WalksRows W previous (rows_over (subtree n) n previous es) (entries_under (upper_rest n es))
 rows_walked W stored n f previous [] l s = refl
@@ -180,7 +181,7 @@ tree_walked stored root es h =
     (subst (WalksTree (suc (top_layer (leaves es))) stored (root_of es)) (entries_again es)
     (node_walked stored (top_layer (leaves es)) (top_layer (leaves es)) (subtrees_walked stored (top_layer (leaves es))) (leaves es) (each_leaf es h.valid.keys h.valid.values, omega (arith, leaves_counted es, h.valid.count)) h.all))
 
--- a walk finds the entries of the tree that is stored
+-- a walk finds the entries of a stored tree
 pub mst_walked : (stored : Stored) (root : CidParts) (es : List Entry) → IsMst stored root es → WalksTree most_layers stored root es
 mst_walked stored root es h =
     walks_within (128 - top_layer (leaves es)) (suc (top_layer (leaves es))) most_layers stored root es (omega (arith, top_within es)) (tree_walked stored root es h)

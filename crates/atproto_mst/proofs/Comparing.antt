@@ -1,4 +1,4 @@
--- What tests of names tell.
+-- What comparisons of CIDs show.
 use Rattle.std.proofs.Common.{◌≡◌, Bool, true, false, refl, sym, ◌∙◌}
 use Rattle.std.specs.Prelude.{not}
 use Rattle.std.specs.Ordering.{eq_by_cmp}

@@ -22,7 +22,7 @@ abbrev pub Shows : (CidParts → List Entry → Type 0) → LevelItem → List E
 Shows W (an_entry e) es = es ≡ e ∷ []
 Shows W (a_link name) es = W name es
 
--- where this says which entries a link has
+-- the entries of items, if W relates each link to its entries
 abbrev pub Lists : (CidParts → List Entry → Type 0) → List LevelItem → List Entry → Type 0
 Lists W [] es = es ≡ []
 Lists W (x ∷ xs) es = (now more : List Entry) × Shows W x now × Lists W xs more × (es ≡ now ++ more)
@@ -115,7 +115,7 @@ found_by : (b : Bool) (u v : CidParts) (x y : Option CidParts) → (if b then So
 found_by true u v x y h f = h
 found_by false u v x y h f = f h
 
--- a record of the first is that of both
+-- a record that the first entries have is the record of all
 found_first : (k : List ℕ) (v : CidParts) (now more : List Entry) → lookup k now ≡ Some v → lookup k (now ++ more) ≡ Some v
 found_first k v [] more h = absurd (cc h)
 found_first k v (e ∷ now) more h = found_by (bytes_eq e.0 k) e.1 v (lookup k now) (lookup k (now ++ more)) h (found_first k v now more)
@@ -124,12 +124,12 @@ none_by : (b : Bool) (u : CidParts) (x y z : Option CidParts) → (if b then Som
 none_by true u x y z h f = absurd (cc h)
 none_by false u x y z h f = f h
 
--- where the first have none, it is that of the second
+-- if the first entries lack the key, the record is that of the others
 none_first : (k : List ℕ) (now more : List Entry) → lookup k now ≡ None → lookup k (now ++ more) ≡ lookup k more
 none_first k [] more h = refl
 none_first k (e ∷ now) more h = none_by (bytes_eq e.0 k) e.1 (lookup k now) (lookup k (now ++ more)) (lookup k more) h (none_first k now more)
 
--- and where the first have one, the second have none
+-- if the first entries have the key, the others lack it
 apart : (k : List ℕ) (v : CidParts) (now more : List Entry) → RiseAll (now ++ more) → lookup k now ≡ Some v → lookup k more ≡ None
 apart k v [] more r h = absurd (cc h)
 apart k v (e ∷ now) more r h = by (bytes_eq e.0 k) refl h (apart k v now more r.1)
@@ -141,7 +141,7 @@ apart k v (e ∷ now) more r h = by (bytes_eq e.0 k) refl h (apart k v now more 
 -- ---- what is left where trees are dropped
 
 module _ (W : CidParts → List Entry → Type 0) (dropped : List CidParts) where
-  -- the key is one of a tree that is dropped
+  -- the key is in a tree that is dropped
   abbrev IsDropped : List CidParts → List ℕ → Type 0
   IsDropped names k = (name : CidParts) × Among name dropped × Among name names × ((l : List Entry) × W name l × ((v : CidParts) × (lookup k l ≡ Some v)))
 

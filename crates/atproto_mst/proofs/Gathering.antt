@@ -1,4 +1,4 @@
--- What is gathered, and where a walk stops, part by part.
+-- What a walk gathers, and where it stops, part by part.
 use Rattle.std.proofs.Common.{◌≡◌, ◌≢◌, ◌⊎◌, inl, inr, ℕ, zero, suc, ◌+◌, ◌-◌, ◌<◌, ◌≤◌, Bool, true, false, ◌&&◌, add-one, get_or, length, take, drop, drop-cons, map, List, [], ◌∷◌, ◌++◌, append_assoc, append-nil, refl, sym, ap, ◌∙◌, subst, arith, Option, Some, None, Vec}
 use Rattle.std.proofs.lemmas.List.{drop_all, length-map, length-append, take-append-le, take_all}
 use Rattle.std.specs.Prelude.{Decides}
@@ -42,7 +42,7 @@ gathers_none W v h = record { found = []; walked = h; behind = record { keys = t
 pub gathers_no_link : (W : CidParts → List Entry → Type 0) (l : Option CidParts) → l ≡ None → (v : Found) → GathersEntries (WalksLink W l) v v
 gathers_no_link W l h v = subst (λ x. GathersEntries (WalksLink W x) v v) (sym h) (gathers_none (WalksLink W None) v refl)
 
--- after a link there is an entry
+-- a subtree under a link has an entry
 module _ (W : CidParts → List Entry → Type 0) (l : Option CidParts) (name : CidParts) (is : l ≡ Some name) (old new : Found) (g : GathersEntries (W name) old new) where
   added : length new.items ≡ length old.items + length g.found
   added = omega (arith, length-map old.items entry_of, length-map new.items entry_of, ap length g.all, length-append (entries old.items) g.found)
@@ -84,7 +84,7 @@ entries_taken zero es = refl
 entries_taken (suc n) [] = refl
 entries_taken (suc n) (e ∷ es) = ap (λ xs. entry_of e ∷ xs) (entries_taken n es)
 
--- a row's key stays where it stands
+-- a row's key keeps its place among the entries
 pub key_kept : (W : List Entry → Type 0) (r : NodeRow) (previous : List ℕ) (old mid late : Found) → AddsRow r previous old mid → GathersEntries W mid late → key_behind (length mid.items) late.items ≡ key_of_row previous r
 key_kept W r previous old mid late a g =
     let here : length (entries mid.items) ≡ length mid.items = length-map mid.items entry_of in
@@ -97,7 +97,8 @@ key_kept W r previous old mid late a g =
 pub still_there : (W : List Entry → Type 0) (mid late : Found) → GathersEntries W mid late → length mid.items ≤ length late.items
 still_there W mid late g = omega (arith, length-map mid.items entry_of, length-map late.items entry_of, ap length g.all, length-append (entries mid.items) g.found)
 
--- From these rows on it goes as it does from the first: what they walk, and where they stop.
+-- A walk that goes on from these rows gives what the walk of all rows gives: its entries, and where
+-- it stops.
 pub record GoesOn (W : CidParts → List Entry → Type 0) (S : List ℕ → CidParts → MstError → Type 0) (first : Found) (all : List NodeRow)
     (found : Found) (key : List ℕ) (rest : List NodeRow) : Type 0 where
   pub walks : (new : Found) → GathersEntries (WalksRows W key rest) found new → GathersEntries (WalksRows W [] all) first new
@@ -131,7 +132,7 @@ module _ (W : CidParts → List Entry → Type 0) (S : List ℕ → CidParts →
   pub goes_to_end : (found : Found) (key : List ℕ) → GoesOn W S first all found key [] → GathersEntries (WalksRows W [] all) first found
   goes_to_end found key go = go.walks found (gathers_none (WalksRows W key []) found refl)
 
--- rows as they are held
+-- rows in memory
 pub row_next : (rows : List Row) (i : ℕ) (r : Row) → i < length rows → r ≡ get_or rows i r → map row_told (drop i rows) ≡ row_told r ∷ map row_told (drop (i + 1) rows)
 row_next rows i r lt is = ap (map row_told) (drop-cons rows i r lt) ∙ ap (λ x. row_told x ∷ map row_told (drop (suc i) rows)) (sym is) ∙ ap (λ k. row_told r ∷ map row_told (drop k rows)) (sym (add-one i))
 
@@ -147,7 +148,7 @@ both false b = (λ e. absurd (cc e), λ h. absurd (cc h.0))
 pub all_three : (a b c : Bool) → Decides ((a && b) && c) ((a ≡ true) × (b ≡ true) × (c ≡ true))
 all_three a b c = (λ e. (let k = (both (a && b) c).0 e in let l = (both a b).0 k.0 in (l.0, l.1, k.1)), λ h. (both (a && b) c).1 ((both a b).1 (h.0, h.1), h.2))
 
--- from these rows on it is settled as from the first, where it held so far
+-- all rows are of the layer exactly if the rows so far fit, and the remaining rows are of it
 pub record SettledBy (F : CidParts → Type 0) (n : ℕ) (all : List NodeRow) (fits : Bool) (key : List ℕ) (rest : List NodeRow) : Type 0 where
   pub on : AreRowsOf F n [] all → (fits ≡ true) × AreRowsOf F n key rest
   pub back : fits ≡ true → AreRowsOf F n key rest → AreRowsOf F n [] all
@@ -197,7 +198,7 @@ pub no_node : (stored : Stored) (name : CidParts) (m layers : ℕ) → suc m ≡
 no_node stored name m layers same before e (inl memory) = inl memory.0
 no_node stored name m layers same before e (inr fault) = inr (subst (λ k. StopsWalk k stored before name e) same (inl fault))
 
--- whether a node stands right below a layer
+-- whether a node is right below a layer
 pub below_decided : (stored : Stored) (name : CidParts) (above layer : ℕ) (p : NodeParts) (lower fits all : Bool) → IsNodeAt stored name p → layer ≡ above - 1 → Decides lower ((1 ≤ above) × ¬ IsEmpty p)
     → Decides fits (IsOfLayer (IsRightBelow stored layer) layer p) → Decides all ((fits ≡ true) × (lower ≡ true)) → Decides all (IsRightBelow stored above name)
 below_decided stored name zero layer p lower fits all at same l f a = (λ e. (let k = l.0 (a.0 e).1 in absurd (omega (arith, k.0))), λ h. absurd h)

@@ -1,4 +1,4 @@
--- What is handed on of nodes, of which some are stored.
+-- Which nodes are handed on, if some are stored already.
 use Rattle.std.proofs.Common.{◌≡◌, ◌⊎◌, inl, inr, Bool, true, false, List, [], ◌∷◌, ◌++◌, None, refl, sym, ap, ◌∙◌, subst, append_assoc, append-nil}
 use Rattle.std.specs.Prelude.{is_some, if◌then◌else◌}
 use Rattle.dagcbor_car.specs.Car.{Section}
@@ -52,7 +52,7 @@ among_kept stored x (s ∷ ss) none (inr m) = by (among_kept stored x ss none m)
     by more true e = subst (Among x) (sym (one_kept stored s ss true e)) more
     by more false e = subst (Among x) (sym (one_kept stored s ss false e)) (inr more)
 
--- of nodes one after the other, those of the first that are not stored stand before those of the others
+-- the nodes of two lists that are not stored are those of the first, and then those of the second
 pub kept_of_both : (stored : Stored) (a b : List Section) → not_stored stored (a ++ b) ≡ not_stored stored a ++ not_stored stored b
 kept_of_both stored [] b = refl
 kept_of_both stored (x ∷ a) b = by (kept_of_both stored a b) (is_some (stored x.0)) refl

@@ -1,4 +1,4 @@
--- Nodes that stand in their layers are those of the tree of their entries.
+-- Nodes in their layers are those of the tree of their entries.
 use Rattle.std.proofs.Common.{◌≡◌, ◌≢◌, ℕ, zero, suc, ◌≤◌, List, [], ◌∷◌, ◌++◌, map, length, take, drop, Option, None, Some, refl, sym, ap, ap₂, ◌∙◌, subst, arith, lt-ltb, le-ltb}
 use Rattle.std.specs.Prelude.{if◌then◌else◌}
 use Rattle.std.proofs.lemmas.List.{map-append}
@@ -214,11 +214,11 @@ root_top stored W l (r ∷ rs) below more es f link (shares, (under, behind, wal
     top_by (key_layer r.rest) (leaves es) (leaves below) (leaves (under ++ behind)) (leaf_of (key_of_row [] r, r.value)) b
     (ap leaves (all ∙ ap (λ x. below ++ x) is) ∙ map-append leaf_of below ((key_of_row [] r, r.value) ∷ (under ++ behind))) (ap key_layer (first_key r))
 
--- a root, and the nodes below it, stand in their layers
+-- a root and the nodes below it are in their layers
 abbrev pub IsRoot : Stored → NodeParts → Type 0
 IsRoot stored p = IsOfLayer (IsRightBelow stored (first_layer p.rows)) (first_layer p.rows) p
 
--- a root whose nodes stand in their layers is that of its entries, whose nodes are stored
+-- a root whose nodes are in their layers is that of its entries, whose nodes are stored
 pub root_over : (stored : Stored) (m : ℕ) (name : CidParts) (p : NodeParts) (es : List Entry) → IsNodeAt stored name p → IsRoot stored p → WalksNode (WalksTree m stored) p es
     → (name ≡ root_of es) × AreStored stored (nodes_of es)
 root_over stored m name p es at f w =

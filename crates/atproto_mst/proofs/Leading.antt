@@ -96,7 +96,7 @@ both_below m stored old new xs ys below beside (dropped, common, one, two) led =
 abbrev pub DiffStops : Stored → CidParts → CidParts → MstError → Type 0
 DiffStops stored old new e = ((e ≡ error.OutOfMemory) × IsStoredNamed stored old) ⊎ (IsOfShape e ⊎ LacksOne stored old new e)
 
--- the root of a tree is there
+-- the root of a tree is stored as a node
 abbrev pub HasRoot : Stored → CidParts → Type 0
 HasRoot stored root = (p : NodeParts) × IsNodeAt stored root p
 
@@ -116,7 +116,7 @@ both_stop k m stored old new xs ys there within led e (inr (inr (inr (name, a, f
 pub root_lacks : (stored : Stored) (root : CidParts) (e : MstError) → NodeFault stored root e → LacksNode stored root e
 root_lacks stored root e fault = (root, led_within 128 1 most_layers stored root root refl (inl refl), fault)
 
--- the first root is refused; or the second, where the first is there
+-- the first root is refused; or the second, if the first is a node
 pub first_stops : (stored : Stored) (old new : CidParts) (e : MstError) → ((e ≡ error.OutOfMemory) × IsStoredNamed stored old) ⊎ NodeFault stored old e → DiffStops stored old new e
 first_stops stored old new e (inl memory) = inl memory
 first_stops stored old new e (inr fault) = inr (inr (inl (root_lacks stored old e fault)))

@@ -73,7 +73,7 @@ pub stops_for_memory : (stored : Stored) (root : CidParts) (e : MstError) → (e
 stops_for_memory stored root e (inl m) es h = m
 stops_for_memory stored root e (inr s) es h = absurd (stops_never_walks stored most_layers [] root e es s (mst_walked stored root es h) (all_behind es h.valid.keys h.valid.rise))
 
--- the root of a tree that is stored is there
+-- the root of a stored tree is stored
 pub stored_root : (stored : Stored) (root : CidParts) (es : List Entry) → IsMst stored root es → IsStoredNamed stored root
 stored_root stored root es h = let w = mst_walked stored root es h in (w.1.block, w.1.is, w.1.named)
 

@@ -136,7 +136,7 @@ pub are_changes : (es fs : List Entry) → Rise es → Rise fs → AreChanges es
 are_changes [] fs re rf = only_added fs rf
 are_changes (e ∷ es) fs re rf = against e es (diff_of es) (λ gs r. are_changes es gs re.1 r) re fs rf
 
--- of equal entries there are none
+-- equal entries have no changes
 pub no_changes : (es : List Entry) → AreChanges es es []
 no_changes es = record { rise = tt; each = tt; all = λ q differ. absurd (differ refl) }
 
@@ -233,7 +233,7 @@ none_there : (es : List MstEntry) → length es ≡ 0 → es ≡ []
 none_there [] h = refl
 none_there (e ∷ es) h = absurd (omega (arith, h))
 
--- of equal entries nothing is left where one of them has ended
+-- if the entries are equal and one list has ended, both have
 pub both_end : (es fs : List MstEntry) (at next : ℕ) → SameRests es fs at next → (length (drop at es) ≡ 0) ⊎ (length (drop next fs) ≡ 0) → entries es ≡ entries fs
     → (drop at es ≡ []) × (drop next fs ≡ [])
 both_end es fs at next s ends is =
@@ -249,7 +249,7 @@ rest_all i l = take_all (length l - i) (drop i l) (omega (arith, length-drop i l
 pub none_left : (i : ℕ) (l : List MstEntry) → length l ≤ i → length (drop i l) ≡ 0
 none_left i l h = omega (arith, h, length-drop i l)
 
--- where one of them has ended
+-- if one of the lists has ended
 at_end : (es fs : List MstEntry) → (length es ≡ 0) ⊎ (length fs ≡ 0) → diff_of (entries es) (entries fs) ≡ removed (entries es) ++ added (entries fs)
 at_end [] fs h = refl
 at_end (e ∷ es) [] h = sym (nothing_behind (removed (entries (e ∷ es))))

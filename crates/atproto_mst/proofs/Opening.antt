@@ -165,7 +165,7 @@ more_refused stored names more e f (inl m) = inl m
 more_refused stored names more e f (inr (inl s)) = inr (inl s)
 more_refused stored names more e f (inr (inr (name, among, fault))) = inr (inr (name, f name among, fault))
 
--- the links of an entry alone are those of its link
+-- the links of a single entry are those of its link
 pub entry_refused : (stored : Stored) (h : LevelEntry) (e : MstError) → LevelLinksRefused stored (link_names (link_items h.after)) e → LevelLinksRefused stored (link_names (held_items (h ∷ []))) e
 entry_refused stored h e r = subst (λ l. LevelLinksRefused stored (link_names l) e) (sym (append-nil (link_items h.after))) r
 

@@ -122,7 +122,7 @@ rows_linked : (rs : List NodeRow) → AllByRecursion IsGoodRow rs → AllByRecur
 rows_linked [] h = tt
 rows_linked (r ∷ rs) h = ((h.0.value, h.0.after), rows_linked rs h.1)
 
--- parts that have a spelling are those of the node that it is of
+-- parts that have a spelling are those of the node with that spelling
 pub parts_are_node : (p : NodeParts) → IsCidIfAny p.left → AllByRecursion IsGoodRow p.rows → length p.rows < 2 ^ 64 → IsNode (spelling (tree_of_node p)) p
 parts_are_node p l rs count = record {
   spelled = record {

@@ -69,7 +69,7 @@ pub last_joined : (key : List ℕ) (es fs : List Entry) → last_entry_key key (
 last_joined key [] fs = refl
 last_joined key (e ∷ es) fs = last_joined e.0 es fs
 
--- the last of entries as they are held
+-- the last of the entries in memory
 pub last_of : (key : List ℕ) (es : List MstEntry) (d : MstEntry) → 0 < length es → last_entry_key key (entries es) ≡ (get_or es (length es - 1) d).key.items
 last_of key [] d h = absurd (omega arith)
 last_of key (e ∷ []) d h = refl

@@ -70,8 +70,8 @@ finds_never_stops (suc m) stored key name found e f g = elim g [
 
 -- ---- the search, layer by layer
 
--- what is found, and what stops it, from this node over the layers that are left, is so from the root;
--- and where bytes are named at it, they are at the root
+-- What is found from this node over the remaining layers, and what stops the search, is the same
+-- from the root. If bytes are stored and named at the node, so they are at the root.
 pub record SearchedTo (most : ℕ) (stored : Stored) (key : List ℕ) (root : CidParts) (layer : ℕ) (name : CidParts) : Type 0 where
   pub found : (x : Option CidParts) → FindsRecord (most - layer) stored key name x → FindsRecord most stored key root x
   pub stops : (e : MstError) → FindStops (most - layer) stored key name e → FindStops most stored key root e

@@ -53,7 +53,7 @@ other_first key k v es not = by (bytes_eq k key) refl
 pub this_first : (key k : List ℕ) (v : CidParts) (es : List Entry) → k ≡ key → lookup key ((k, v) ∷ es) ≡ Some v
 this_first key k v es is = ap (λ b. if b then Some v else lookup key es) ((bytes_eq-Decides k key).1 is)
 
--- it has none before the first
+-- entries that begin after the key lack it
 pub no_record_before : (key : List ℕ) (es : List Entry) → ComesBefore key es → Rise es → lookup key es ≡ None
 no_record_before key [] b r = refl
 no_record_before key (e ∷ []) b r = other_first key e.0 e.1 [] (λ is. not_same key e.0 b (sym is))
@@ -81,7 +81,7 @@ record_in_front key (e ∷ es) fs b r = ap (λ found. if bytes_eq e.0 key then S
 
 -- ---- in a node
 
--- what is said of the key is what the entries have
+-- what a node says about the key agrees with the entries
 abbrev Decides : (CidParts → List Entry → Type 0) → List ℕ → Sought → List Entry → Type 0
 Decides W key (sought.Record v) es = lookup key es ≡ Some v
 Decides W key (sought.Below link) es = (below : List Entry) × WalksLink W link below × Rise below × (lookup key es ≡ lookup key below)
@@ -92,7 +92,7 @@ decides_more W key (sought.Record v) es fs e d = e ∙ d
 decides_more W key (sought.Below link) es fs e d = (d.0, d.1, d.2, e ∙ d.3)
 decides_more W key sought.KeyFront es fs e d = d
 
--- at a row, where what follows it is decided
+-- at a row, if the rest is decided
 row_decides : (W : CidParts → List Entry → Type 0) (key k : List ℕ) (v : CidParts) (before : Option CidParts) (more : Sought) (below rest : List Entry) (o : Ordering) → slice_cmp nat_cmp key k ≡ o
     → WalksLink W before below → Rise (below ++ (k, v) ∷ rest) → (Rise rest → Decides W key more rest) → Decides W key (by_order o (sought.Below before) (sought.Record v) more) (below ++ (k, v) ∷ rest)
 row_decides W key k v before more below rest Less e l r d = (below, l, rise_left below ((k, v) ∷ rest) r, record_in_front key below ((k, v) ∷ rest) e r)

@@ -1,4 +1,4 @@
--- The changes between two trees, of which shared subtrees are left out.
+-- The changes between two trees, if shared subtrees are left out.
 use Rattle.std.proofs.Common.{◌≡◌, inl, inr, List, [], ◌∷◌, ◌++◌, map, sym, ◌∙◌, subst, Result, Ok, Err, Vec, IfOk}
 use Rattle.std.specs.declared.alloc.Global.{Global}
 use Rattle.ipld_tree.specs.Cid.{CidParts}
@@ -22,7 +22,7 @@ use Rattle.atproto_mst.proofs.Merging.{no_changes}
 
 -- ---- the walk
 
--- of whatever entries the roots are, the levels have all changes
+-- for any entries that have these roots, the levels have all changes
 abbrev pub TellsOf : Stored → CidParts → CidParts → List LevelItem → List LevelItem → Type 0
 TellsOf stored old new xs ys = (es fs : List Entry) → IsRootOfEntries old es → IsRootOfEntries new fs → NamesBind stored (nodes_of es ++ nodes_of fs)
     → Tells (held (nodes_of es ++ nodes_of fs)) es fs xs ys

@@ -74,7 +74,7 @@ node_need (Some c) rs = omega (arith, need_of_rows rs)
 need_of_node : (p : NodeParts) → node_shape.need (tree_of_node p) ≤ default_steps
 need_of_node p = node_need p.left p.rows
 
--- a block that shows nothing is no node
+-- a block that shows nothing is not a node
 pub not_shown : (b : List ℕ) → HoldsNoValue node_shape default_steps b → (p : NodeParts) → ¬ IsNode b p
 not_shown b h p n = h (node_view p) (tree_of_node p, n.spelled, view_of_node p n.spelled.spellable, need_of_node p)
 

@@ -91,7 +91,7 @@ one_commit b c d p q =
     one_tree b (commit_shown (commit_meaning c)) (commit_shown (commit_meaning d)) (commit_spelled c b p) (commit_spelled d b q) in
     cc same
 
--- a block that shows nothing is no commit of a version of a byte
+-- a block that shows nothing is not a commit whose version fits a byte
 pub no_commit : (b : List ℕ) (c : Commit) → HoldsNoValue commit_shape default_steps b → c.version < 2 ^ 8 → ¬ AreSpellingOf (commit_tree c) b
 no_commit b c h small p = h (commit_meaning c) (
   commit_shown (commit_meaning c),

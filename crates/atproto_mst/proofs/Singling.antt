@@ -1,4 +1,4 @@
--- The changes between entries are told in one way.
+-- Two lists of entries have one list of changes.
 use Rattle.std.proofs.Common.{◌≡◌, ◌≢◌, inl, inr, ℕ, List, [], ◌∷◌, refl, sym, ap, ◌∙◌, subst}
 use Rattle.std.specs.List.{AllByRecursion}
 use Rattle.atproto_mst.specs.Keys.{Entry}

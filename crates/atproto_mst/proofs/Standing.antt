@@ -1,4 +1,4 @@
--- The nodes of a tree that is stored stand in their layers.
+-- The nodes of a stored tree are in their layers.
 use Rattle.std.proofs.Common.{◌≡◌, ◌⊎◌, inl, inr, ℕ, zero, suc, ◌<◌, ◌≤◌, Bool, true, false, List, [], ◌∷◌, ◌++◌, Option, None, refl, sym, ap, ◌∙◌, subst, arith, ltb-false, ltb-true}
 use Rattle.std.specs.Prelude.{if◌then◌else◌, nat_lt}
 use Rattle.ipld_tree.specs.Cid.{CidParts}
@@ -15,7 +15,7 @@ use Rattle.atproto_mst.proofs.Parts.{row_at, rows_over, parts_over, key_again, I
 use Rattle.atproto_mst.proofs.Canonical.{AreBelow, AreLeaves, lower_are_leaves, lower_below, next_leaves, stored_apart, each_leaf, leaves_counted}
 use Rattle.atproto_mst.proofs.Layered.{first_key, IsRoot}
 
--- the trees over leaves below layer n stand in their layers, where they are stored
+-- the subtrees over leaves below layer n are in their layers, if they are stored
 abbrev StandBelow : Stored → ℕ → (CidParts → Type 0) → Type 0
 StandBelow stored n F = (es : List Leaf) → AreBelow n es → AreLeaves es → AreStored stored (subtree_nodes n es) → IfLinked F (subtree n es)
 
@@ -116,7 +116,7 @@ layer_is : (F : CidParts → Type 0) (n : ℕ) (rs : List NodeRow) → AreRowsOf
 layer_is F n [] f none = none refl
 layer_is F n (r ∷ rs) f none = ap key_layer (sym (first_key r)) ∙ f.0.0
 
--- the root of a tree that is stored, and the nodes below it
+-- the root of a stored tree, and the nodes below it
 pub root_stands : (stored : Stored) (name : CidParts) (es : List Entry) (p : NodeParts) → IsMst stored name es → IsNodeAt stored name p → IsRoot stored p
 unfolding mst nodes_of
 root_stands stored name es p h at =

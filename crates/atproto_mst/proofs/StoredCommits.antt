@@ -30,7 +30,7 @@ unread_refused stored name b (error.Tree e) at h = absurd h
 one_block : (stored : Stored) (name : CidParts) (b d : List ℕ) → stored name ≡ Some b → stored name ≡ Some d → b ≡ d
 one_block stored name b d h k = let same = sym h ∙ k in cc same
 
--- a commit that is stored is refused for want of memory alone
+-- a stored commit is refused only when out of memory
 pub only_memory : (stored : Stored) (name : CidParts) (c : Commit) (e : RepoError) → IsStoredCommit stored name c → CommitRefused stored name e → e ≡ error.OutOfMemory
 only_memory stored name c error.OutOfMemory s h = refl
 only_memory stored name c error.Missing (version, (b, at, spelled)) h = let clash = sym at.0 ∙ h in absurd (cc clash)
@@ -63,7 +63,7 @@ commit_unread stored name (error.Tree e) h = absurd h
 name_is_cid : (b : List ℕ) → AreCidParts (block_name b)
 name_is_cid b = inr (refl, omega arith, omega arith, omega (arith, length-sha256 b))
 
--- commits under one name name one root, where a tree has it
+-- two commits under one name have the same root, if a tree has it
 pub same_root : (stored : Stored) (name : CidParts) (c d : Commit) (es : List Entry) → AreCidParts c.data → IsStoredCommit stored name c → IsStoredCommit stored name d
     → IsMst stored d.data es → IsMst stored c.data es
 same_root stored name c d es valid (v, (b, at, spelled)) (w, (o, there, read)) m =

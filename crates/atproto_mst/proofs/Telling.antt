@@ -1,4 +1,4 @@
--- What a search tells of a tree that is stored whole.
+-- What a search finds in a tree that is stored whole.
 use Rattle.std.proofs.Common.{◌≡◌, ◌⊎◌, inl, inr, ℕ, List, Option}
 use Rattle.ipld_tree.specs.Cid.{CidParts}
 use Rattle.ipld_links.specs.Reaching.{Stored}

@@ -13,7 +13,7 @@ use Rattle.atproto_mst.proofs.Searching.{layers_left, finds_never_stops}
 
 -- ---- the search, layer by layer
 
--- the names on the way from this node, after those that were read, are those from the root
+-- the names on the way from this node, after those already read, are those from the root
 pub record WentTo (most : ℕ) (stored : Stored) (key : List ℕ) (root : CidParts) (layer : ℕ) (name : CidParts) (names : List CidParts) : Type 0 where
   pub all : (more : List CidParts) → IsWay (most - layer) stored key name more → IsWay most stored key root (names ++ more)
 

@@ -15,7 +15,7 @@ commit_tree c = entries_tree (
     ∷ field (codes "prev") (option_tree (λ p. Some (link (cid_bytes p))) c.prev)
     ∷ field (codes "version") (Some (integer (pos c.version))) ∷ [])
 
--- the fields but for the signature, which is what it is of
+-- the fields without the signature, which are what is signed
 abbrev pub unsigned_tree : Commit → Option Tree
 unsigned_tree c = entries_tree (
     field (codes "did") (Some (text (string_bytes c.did)))

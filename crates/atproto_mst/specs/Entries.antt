@@ -1,4 +1,4 @@
--- Entries as they are held, and why they are none.
+-- Entries in memory, and why they are refused.
 use Rattle.std.specs.Prelude.{◌≡◌, List, map, Some}
 use Rattle.std.specs.List.{AllByRecursion}
 use Rattle.ipld_tree.specs.Cid.{CidParts}
@@ -17,14 +17,14 @@ entry_of e = (e.key.items, e.value)
 abbrev pub entries : List MstEntry → List Entry
 entries es = map entry_of es
 
--- why entries are refused: lengths before order; memory is wanted of good ones alone
+-- why entries are refused: lengths are checked before order; out of memory, only if they are valid
 abbrev pub EntriesRefused : MstError → List Entry → Type 0
 EntriesRefused OutOfMemory es = AreMstEntries es
 EntriesRefused KeyLength es = ¬ HaveKeys es
 EntriesRefused KeyOrder es = HaveKeys es × ¬ Rise es
 EntriesRefused _ es = ⊥
 
--- under the name of each node its block is stored
+-- the block of each node is stored under its name
 abbrev pub AreStored : Stored → List Section → Type 0
 AreStored stored nodes = AllByRecursion (λ s. stored s.0 ≡ Some s.1) nodes
 

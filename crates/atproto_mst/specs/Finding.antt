@@ -21,14 +21,14 @@ lookup key (e ∷ es) = if bytes_eq e.0 key then Some e.1 else lookup key es
 
 -- ---- in a node
 
--- the first, where it is less; the second, where it is equal; else the third
+-- one of three values, for less, equal and greater
 abbrev pub by_order : {X : Type 0} → Ordering → X → X → X → X
 by_order Less x y z = x
 by_order Equal x y z = y
 by_order Greater x y z = z
 
--- What rows after a key say of the key that is sought, where the tree before them is this: the
--- record of a row whose key it is, or the tree in which its record stands, if there is one.
+-- What the rows after `previous` say about the key, if `before` is the subtree before them: the
+-- record of the row that has the key, or the subtree that may have it, if there is one.
 abbrev pub seek : List ℕ → List ℕ → Option CidParts → List NodeRow → Sought
 seek key previous before [] = sought.Below before
 seek key previous before (r ∷ rs) =
@@ -36,32 +36,32 @@ seek key previous before (r ∷ rs) =
     else by_order (slice_cmp nat_cmp key (key_of_row previous r)) (sought.Below before) (sought.Record r.value)
     (seek key (key_of_row previous r) r.after rs)
 
--- what a node says of the key
+-- what a node says about the key
 abbrev pub seek_in : List ℕ → NodeParts → Sought
 seek_in key p = seek key [] p.left p.rows
 
 -- ---- in a tree
 
--- this is found, where a node says so; else in the tree below it; no tree has none
+-- found in a node, or else in the subtree below it; without a subtree, nothing is found
 abbrev pub FindsBelow : (CidParts → Option CidParts → Type 0) → Sought → Option CidParts → Type 0
 FindsBelow F (sought.Record value) found = found ≡ Some value
 FindsBelow F (sought.Below None) found = found ≡ None
 FindsBelow F (sought.Below (Some next)) found = F next found
 FindsBelow F sought.KeyFront found = ⊥
 
--- from the root of this name, over at most so many nodes
+-- found from this root, over at most the given number of nodes
 abbrev pub FindsRecord : ℕ → Stored → List ℕ → CidParts → Option CidParts → Type 0
 FindsRecord zero stored key name found = ⊥
 FindsRecord (suc m) stored key name found = (p : NodeParts) × IsNodeAt stored name p
     × FindsBelow (FindsRecord m stored key) (seek_in key p) found
 
--- the first fault on the way
+-- the first fault below a node
 abbrev pub FaultBelow : (CidParts → MstError → Type 0) → Sought → MstError → Type 0
 FaultBelow F (sought.Below (Some next)) e = F next e
 FaultBelow F sought.KeyFront e = e ≡ error.KeyFront
 FaultBelow F _ e = ⊥
 
--- why it is not told
+-- why a search from this root stops
 abbrev pub FindStops : ℕ → Stored → List ℕ → CidParts → MstError → Type 0
 FindStops zero stored key name e = e ≡ error.TooDeep name
 FindStops (suc m) stored key name e = NodeFault stored name e
@@ -69,14 +69,14 @@ FindStops (suc m) stored key name e = NodeFault stored name e
 
 -- ---- the way
 
--- where a node says that the key is in a tree below it, these are the names from there on; else there
--- are none
+-- the names of the nodes on the way below a node: empty if the node has the record, or no subtree
+-- may have it
 abbrev pub WayBelow : (CidParts → List CidParts → Type 0) → Sought → List CidParts → Type 0
 WayBelow F (sought.Below (Some next)) names = F next names
 WayBelow F sought.KeyFront names = ⊥
 WayBelow F _ names = names ≡ []
 
--- the names of the nodes that say what is found, from the root of this name on, over at most so many
+-- the names of the nodes on the way from this root to the key, at most the given number
 abbrev pub IsWay : ℕ → Stored → List ℕ → CidParts → List CidParts → Type 0
 IsWay zero stored key name names = ⊥
 IsWay (suc m) stored key name names = (p : NodeParts) × IsNodeAt stored name p

@@ -1,4 +1,4 @@
--- What a walk adds to the entries that were found before.
+-- What a walk adds to the entries found before.
 use Rattle.std.specs.Prelude.{◌≡◌, ℕ, List, [], ◌∷◌, ◌++◌, take, Vec}
 use Rattle.std.specs.declared.alloc.Global.{Global}
 use Rattle.atproto_mst.specs.Keys.{Entry}
@@ -7,18 +7,18 @@ use Rattle.atproto_mst.specs.Nodes.{NodeRow, key_of_row}
 use Rattle.atproto_mst.specs.Stops.{last_entry_key, ComeBehind, IsRow}
 use Rattle.atproto_mst.specs.declared.entries.MstEntry.{MstEntry}
 
--- entries that are so stand after those that there were, and their keys come after the last key
+-- appends entries that satisfy W, whose keys come after the last key
 pub record GathersEntries (W : List Entry → Type 0) (old new : Vec MstEntry Global) : Type 0 where
   pub found : List Entry
   pub walked : W found
   pub behind : ComeBehind (last_entry_key [] (entries old.items)) found
   pub all : entries new.items ≡ entries old.items ++ found
 
--- the key of the last of so many entries
+-- the key of the last of the first n entries
 abbrev pub key_behind : ℕ → List MstEntry → List ℕ
 key_behind n es = last_entry_key [] (entries (take n es))
 
--- the row's entry stands after those that there were
+-- appends the row's entry
 pub record AddsRow (r : NodeRow) (previous : List ℕ) (old new : Vec MstEntry Global) : Type 0 where
   pub row : IsRow previous (last_entry_key [] (entries old.items)) r
   pub all : entries new.items ≡ entries old.items ++ (key_of_row previous r, r.value) ∷ []

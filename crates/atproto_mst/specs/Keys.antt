@@ -12,12 +12,12 @@ use Rattle.ipld_tree.specs.Cid.{CidParts, AreCidParts}
 abbrev pub Entry : Type 0
 Entry = List ℕ × CidParts
 
--- how many bits of the bytes are zero before the first that is one
+-- how many leading bits of the bytes are zero
 abbrev pub zero_bits : List ℕ → ℕ
 zero_bits [] = 0
 zero_bits (b ∷ bs) = if b == 0 then 8 + zero_bits bs else leading_zeros w8 b
 
--- the leading zero bits of the key's SHA-256, two to a layer
+-- half the number of leading zero bits of the key's SHA-256, rounded down
 unfoldable pub key_layer : List ℕ → ℕ
 key_layer key = zero_bits (sha256 key) / 2
 
@@ -25,12 +25,12 @@ key_layer key = zero_bits (sha256 key) / 2
 abbrev pub IsKey : List ℕ → Type 0
 IsKey key = (1 ≤ length key) × (length key ≤ 1024)
 
--- each has a key
+-- each entry has a valid key
 abbrev pub HaveKeys : List Entry → Type 0
 HaveKeys [] = ⊤
 HaveKeys (e ∷ es) = IsKey e.0 × HaveKeys es
 
--- each has a CID
+-- the value of each entry is a CID
 abbrev pub HaveCids : List Entry → Type 0
 HaveCids es = AllByRecursion (λ e. AreCidParts e.1) es
 
@@ -44,11 +44,11 @@ abbrev pub Rise : List Entry → Type 0
 Rise [] = ⊤
 Rise (e ∷ es) = ComesBefore e.0 es × Rise es
 
--- they have keys, which rise
+-- the keys are valid, and rise
 abbrev pub HaveRisingKeys : List Entry → Type 0
 HaveRisingKeys es = HaveKeys es × Rise es
 
--- the entries of a repository: keys of 1 to 1024 bytes, which rise, and CIDs; fewer than 2 ^ 64 of them
+-- the entries of a repository: valid keys, which rise, and CIDs; fewer than 2 ^ 64 entries
 pub record AreMstEntries (es : List Entry) : Type 0 where
   pub keys : HaveKeys es
   pub rise : Rise es

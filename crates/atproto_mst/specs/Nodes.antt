@@ -10,15 +10,15 @@ use Rattle.atproto_mst.specs.Trees.{row_tree, node_map}
 use Rattle.repository_types.specs.declared.repository.Entry.{Entry}
 use Rattle.repository_types.specs.declared.repository.Node.{Node}
 
--- An entry of a node: how many bytes of its key are those of the key before it in the node, the other
--- bytes, its record, and the tree between this key and the next.
+-- An entry of a node: how many bytes it shares with the key before it in the node, the rest of the
+-- key, its record, and the subtree between this key and the next.
 pub record NodeRow : Type 0 where
   pub shared : ℕ
   pub rest : List ℕ
   pub value : CidParts
   pub after : Option CidParts
 
--- its entries, and the tree before the first key
+-- a node: its entries, and the subtree before the first key
 pub record NodeParts : Type 0 where
   pub left : Option CidParts
   pub rows : List NodeRow
@@ -29,7 +29,7 @@ tree_of_row r = row_tree r.shared r.rest r.value r.after
 abbrev pub tree_of_node : NodeParts → Tree
 tree_of_node p = node_map (map tree_of_row p.rows) p.left
 
--- where there is a link, it is a CID
+-- the link, if there is one, is a CID
 abbrev pub IsCidIfAny : Option CidParts → Type 0
 IsCidIfAny None = ⊤
 IsCidIfAny (Some name) = AreCidParts name
@@ -47,7 +47,7 @@ pub record IsNodeAt (stored : Stored) (name : CidParts) (p : NodeParts) : Type 0
   pub named : name ≡ block_name block
   pub node : IsNode block p
 
--- the key of an entry after this key
+-- the key of a row that follows this key
 abbrev pub key_of_row : List ℕ → NodeRow → List ℕ
 key_of_row previous r = take r.shared previous ++ r.rest
 

@@ -1,4 +1,4 @@
--- What nodes are handed to.
+-- What sinks receive.
 use Rattle.std.specs.Prelude.{◌≡◌, ◌⊎◌, List, [], ◌∷◌, ◌++◌, is_some, if◌then◌else◌}
 use Rattle.dagcbor_car.specs.Car.{Section}
 use Rattle.ipld_links.specs.Sets.{Among}
@@ -6,24 +6,24 @@ use Rattle.ipld_links.specs.Reaching.{Stored}
 use Rattle.atproto_mst.specs.declared.error.MstError.{MstError}
 use Rattle.atproto_mst.specs.declared.error.MstError.TheVariants.{OutOfMemory}
 
--- these were handed over after those that were before
+-- the sink received these sections after those before
 abbrev pub HandsOver : {S W : Type 0} → (S → W → List Section → Type 0) → S → List Section → S → Type 0
 HandsOver {S} {W} holds old taken new = (world : W) (before : List Section) → holds old world before
     → holds new world (before ++ taken)
 
--- of these the first were handed over, and no others
+-- the sink received the first of these sections, and no others
 abbrev pub HandsOverFirst : {S W : Type 0} → (S → W → List Section → Type 0) → S → List Section → S → Type 0
 HandsOverFirst holds old nodes new = (first rest : List Section) × (nodes ≡ first ++ rest)
     × HandsOver holds old first new
 
--- memory was wanted, or one of the nodes was refused, for this
+-- out of memory, or the sink refused one of the nodes for this reason
 abbrev pub RefusesOne : {S W : Type 0} → (S → W → List Section → Type 0) → (W → Section → MstError → Type 0)
     → S → List Section → MstError → Type 0
 RefusesOne {S} {W} holds refuses old nodes e = (world : W) (before : List Section)
     → holds old world before
     → (e ≡ OutOfMemory) ⊎ ((s : Section) × Among s nodes × refuses world s e)
 
--- the nodes under whose names nothing is stored
+-- the nodes that are not stored
 abbrev pub not_stored : Stored → List Section → List Section
 not_stored stored [] = []
 not_stored stored (s ∷ ss) = if is_some (stored s.0) then not_stored stored ss else s ∷ not_stored stored ss

@@ -13,11 +13,11 @@ use Rattle.atproto_mst.specs.Walks.{WalksLink, WalksTree, most_layers}
 use Rattle.atproto_mst.specs.declared.error.MstError.{MstError}
 use Rattle.atproto_mst.specs.declared.error.MstError.TheVariants as error
 
--- bytes are stored under the name, of which it is the name as a block's
+-- bytes are stored under the name, and it is their name
 abbrev pub IsStoredNamed : Stored → CidParts → Type 0
 IsStoredNamed stored name = (b : List ℕ) × (stored name ≡ Some b) × (name ≡ block_name b)
 
--- no node of this name is there, and why
+-- why there is no node under this name
 abbrev pub NodeFault : Stored → CidParts → MstError → Type 0
 NodeFault stored name (error.MissingNode lost) = (lost ≡ name) × (stored name ≡ None)
 NodeFault stored name (error.OtherBytes other) = (other ≡ name)
@@ -26,7 +26,7 @@ NodeFault stored name (error.NoNode other) = (other ≡ name)
     × ((b : List ℕ) × (stored name ≡ Some b) × (name ≡ block_name b) × ((p : NodeParts) → ¬ IsNode b p))
 NodeFault stored name _ = ⊥
 
--- what is wrong with a row after this key of its node, where this key comes before it in the tree
+-- what is wrong with a row that follows `previous` in its node, and `before` in the tree
 abbrev pub RowFault : List ℕ → List ℕ → NodeRow → MstError → Type 0
 RowFault previous before r error.KeyFront = length previous < r.shared
 RowFault previous before r error.KeyLength = (r.shared ≤ length previous)
@@ -35,32 +35,32 @@ RowFault previous before r error.KeyOrder = (r.shared ≤ length previous)
     × IsKey (key_of_row previous r) × (slice_cmp nat_cmp before (key_of_row previous r) ≢ Less)
 RowFault previous before r _ = ⊥
 
--- nothing is
+-- the row has no fault
 pub record IsRow (previous before : List ℕ) (r : NodeRow) : Type 0 where
   pub shares : r.shared ≤ length previous
   pub is_key : IsKey (key_of_row previous r)
   pub behind : slice_cmp nat_cmp before (key_of_row previous r) ≡ Less
 
--- the entries have keys, which rise, and come after this key
+-- the keys are valid, rise, and come after this one
 pub record ComeBehind (before : List ℕ) (es : List Entry) : Type 0 where
   pub keys : HaveKeys es
   pub rise : Rise es
   pub behind : ComesBefore before es
 
--- the last key of the entries, or this one, where there are none
+-- the key of the last entry, or this key if there are no entries
 abbrev pub last_entry_key : List ℕ → List Entry → List ℕ
 last_entry_key before [] = before
 last_entry_key before (e ∷ es) = last_entry_key e.0 es
 
 -- ---- the walk
 
--- In the tree under a link; or that tree has no entry.
+-- In the subtree under a link; or that subtree has no entry.
 abbrev pub StopsBehind : (CidParts → List Entry → Type 0) → (List ℕ → CidParts → MstError → Type 0)
     → List ℕ → Option CidParts → MstError → Type 0
 StopsBehind W S before None e = ⊥
 StopsBehind W S before (Some name) e = S before name e ⊎ ((e ≡ error.OtherTree) × W name [])
 
--- At a row; else in the tree after it; else, after that tree, at a later row.
+-- At a row; else in the subtree after it; else at a later row.
 abbrev pub StopsInRows : (CidParts → List Entry → Type 0) → (List ℕ → CidParts → MstError → Type 0)
     → List ℕ → List ℕ → List NodeRow → MstError → Type 0
 StopsInRows W S before previous [] e = ⊥
@@ -69,14 +69,14 @@ StopsInRows W S before previous (r ∷ rs) e = RowFault previous before r e
     ⊎ ((below : List Entry) × WalksLink W r.after below × ComeBehind (key_of_row previous r) below
     × StopsInRows W S (last_entry_key (key_of_row previous r) below) (key_of_row previous r) rs e)))
 
--- In the tree before the first key; else after it.
+-- In the subtree before the first key; else at a row.
 abbrev pub StopsInNode : (CidParts → List Entry → Type 0) → (List ℕ → CidParts → MstError → Type 0)
     → List ℕ → NodeParts → MstError → Type 0
 StopsInNode W S before p e = StopsBehind W S before p.left e
     ⊎ ((below : List Entry) × WalksLink W p.left below × ComeBehind before below
     × StopsInRows W S (last_entry_key before below) [] p.rows e)
 
--- From the root of this name, after this key, where at most so many nodes stand below each other.
+-- From this root, after this key, over at most the given number of nodes below each other.
 abbrev pub StopsWalk : ℕ → Stored → List ℕ → CidParts → MstError → Type 0
 StopsWalk zero stored before name e = e ≡ error.TooDeep name
 StopsWalk (suc m) stored before name e = NodeFault stored name e
@@ -84,15 +84,15 @@ StopsWalk (suc m) stored before name e = NodeFault stored name e
 
 -- ---- why a tree is not read
 
--- Memory was wanted, of a root that is stored; the walk stops, at the first fault on its way; or it
--- does not, but the entries are those of another tree, by which they should be stored.
+-- Out of memory, if the root is stored; or the first fault of the walk; or the walk meets no fault,
+-- but the stored nodes are not those of the tree of its entries.
 abbrev pub MstRefused : Stored → CidParts → MstError → Type 0
 MstRefused stored root error.OutOfMemory = IsStoredNamed stored root
 MstRefused stored root error.OtherTree = StopsWalk most_layers stored [] root error.OtherTree
     ⊎ ((es : List Entry) × WalksTree most_layers stored root es × AreMstEntries es × ¬ IsMst stored root es)
 MstRefused stored root e = StopsWalk most_layers stored [] root e
 
--- of a tree that is refused there is one reason, beside memory
+-- a refused tree has one reason, out of memory aside
 abbrev pub OneReason : Type 0
 OneReason = (stored : Stored) (root : CidParts) (e f : MstError) → MstRefused stored root e
     → MstRefused stored root f → (e ≡ error.OutOfMemory) ⊎ ((f ≡ error.OutOfMemory) ⊎ (e ≡ f))

@@ -7,7 +7,7 @@ use Rattle.ipld_links.specs.Names.{block_name}
 use Rattle.dagcbor_car.specs.Car.{Section}
 use Rattle.atproto_mst.specs.Keys.{Entry, key_layer}
 
--- an entry, beside the layer of its key
+-- an entry, with the layer of its key
 pub record Leaf : Type 0 where
   pub layer : ℕ
   pub key : List ℕ
@@ -21,7 +21,7 @@ abbrev pub lower_run : ℕ → List Leaf → List Leaf
 lower_run n [] = []
 lower_run n (e ∷ es) = if nat_lt e.layer n then e ∷ lower_run n es else []
 
--- how many bytes the second key shares with the first
+-- how many leading bytes two keys share
 abbrev pub shared : List ℕ → List ℕ → ℕ
 shared [] key = 0
 shared (b ∷ bs) [] = 0
@@ -32,34 +32,34 @@ abbrev pub link_tree : Option CidParts → Tree
 link_tree None = null
 link_tree (Some name) = link (cid_bytes name)
 
--- how many bytes the key shares with the key before it in the node, the other bytes, the value, and
--- the node between this key and the next
+-- a node's entry: how many bytes the key shares with the one before it, the rest of the key, the
+-- value, and the subtree between this key and the next
 abbrev pub row_tree : ℕ → List ℕ → CidParts → Option CidParts → Tree
 row_tree p k v t = mapping (entry (codes "k") (bytes k) (entry (codes "p") (integer (pos p))
     (entry (codes "t") (link_tree t) (entry (codes "v") (link (cid_bytes v)) no_entries))))
 
--- the entry of a leaf after this key
+-- the entry of a leaf that follows this key
 abbrev pub entry_tree : List ℕ → Leaf → Option CidParts → Tree
 entry_tree previous e t = row_tree (shared previous e.key) (drop (shared previous e.key) e.key) e.value t
 
--- the entries of a node of layer n: of the leaves of that layer, where `sub` names the nodes of
--- those between them
+-- the entries of a node of layer n, one for each leaf of that layer; `sub` names the subtree over
+-- the leaves between them
 abbrev pub entry_trees : (List Leaf → Option CidParts) → ℕ → List ℕ → List Leaf → List Tree
 entry_trees sub n previous [] = []
 entry_trees sub n previous (e ∷ es) =
     if nat_lt e.layer n then entry_trees sub n previous es
     else entry_tree previous e (sub (lower_run n es)) ∷ entry_trees sub n e.key es
 
--- a map of the entries, and of the node before the first key
+-- a node: the map of its entries and of the subtree before the first key
 abbrev pub node_map : List Tree → Option CidParts → Tree
 node_map e l = mapping (entry (codes "e") (list (items_of e)) (entry (codes "l") (link_tree l) no_entries))
 
--- the node of layer n over leaves of that layer and of lower ones
+-- the node of layer n over leaves of that layer and lower ones
 abbrev pub node_over : (List Leaf → Option CidParts) → ℕ → List Leaf → Tree
 node_over sub n es = node_map (entry_trees sub n [] es) (sub (lower_run n es))
 
--- The name of the node over leaves that are all below layer n: a node of the layer right below. No
--- leaves have none.
+-- The name of the subtree over leaves that are all below layer n: a node of the layer right below.
+-- There is no subtree without leaves.
 unfoldable pub subtree : ℕ → List Leaf → Option CidParts
 subtree zero es = None
 subtree (suc n) [] = None
@@ -87,7 +87,7 @@ abbrev pub nodes_over : (List Leaf → List Section) → Tree → ℕ → List L
 nodes_over nodes t n es = nodes (lower_run n es)
     ++ (nodes_between nodes n es ++ (node_section t ∷ []))
 
--- the nodes over leaves that are all below layer n
+-- the nodes of the subtree over leaves that are all below layer n
 unfoldable pub subtree_nodes : ℕ → List Leaf → List Section
 subtree_nodes zero es = []
 subtree_nodes (suc n) [] = []
@@ -115,6 +115,6 @@ mst entries = node (top_layer (leaves entries)) (leaves entries)
 abbrev pub root_of : List Entry → CidParts
 root_of entries = block_name (spelling (mst entries))
 
--- all nodes
+-- all nodes of the tree
 unfoldable pub nodes_of : List Entry → List Section
 nodes_of entries = nodes (top_layer (leaves entries)) (leaves entries)

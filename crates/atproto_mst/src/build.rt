@@ -1,4 +1,4 @@
-//! The nodes over leaves.
+//! Builds the nodes of a tree from its leaves.
 
 ghost use Rattle.std.specs.Prelude.{◌≡◌, [], ◌∷◌, map, Some, IfOk, OnOk, IfErr, MatchResult};
 ghost use Rattle.ipld_tree.specs.Spelling.{spelling};
@@ -19,8 +19,8 @@ use ipld_tree::{Bytes, Cid};
 use repository_types::{Entry, Node};
 use std::alloc::{AllocError, Global};
 
-/// Hands over the nodes over leaves that are all below the layer, and answers the name of the last
-/// of them, if there are leaves.
+/// Hands over the nodes of the subtree over leaves that are all below the layer. Returns the CID of
+/// the last node, or `None` if there are no leaves.
 #[cycle(build)]
 fn name_subtree<S: NodeSink>(
     alloc: Global,
@@ -43,8 +43,8 @@ fn name_subtree<S: NodeSink>(
     Ok(Some(name))
 }
 
-/// Hands over the nodes of the tree whose root is of the layer, the root last, and answers its
-/// name.
+/// Hands over the nodes of the tree whose root is in this layer, the root last. Returns the root's
+/// CID.
 #[cycle(build)]
 pub(crate) fn name_node<S: NodeSink>(
     alloc: Global,
@@ -67,8 +67,8 @@ pub(crate) fn name_node<S: NodeSink>(
     hand_over(alloc, &Node { l: left, e: rows }, sink)
 }
 
-/// Hands over the nodes between and after the leaves of the layer, of which the first is one, and
-/// answers the entries of these.
+/// Hands over the nodes between and after the leaves of this layer. The first leaf must be of the
+/// layer. Returns the node's entries.
 #[cycle(build)]
 fn name_rows<S: NodeSink>(
     alloc: Global,
@@ -103,7 +103,7 @@ fn name_rows<S: NodeSink>(
     Ok(rows)
 }
 
-/// The entry of a leaf after this key, before the node.
+/// Returns the node entry of a leaf that follows this key, with this subtree after it.
 fn row_of(
     alloc: Global,
     previous: &[u8],
@@ -123,7 +123,7 @@ fn row_of(
     })
 }
 
-/// Hands over the node, and answers its name.
+/// Encodes the node, hands it over, and returns its CID.
 fn hand_over<S: NodeSink>(alloc: Global, node: &Node, sink: &mut S) -> Result<Cid, MstError>
     ensures name { IfOk result (λ name. name ≡ block_name (spelling
         (tree_of_node (node_told node.now)))) }

@@ -1,4 +1,4 @@
-//! Entries in order, of which one is changed.
+//! Setting and removing one of a sorted list of entries.
 
 ghost use Rattle.std.specs.Prelude.{◌≡◌, MatchResult, IfOk, OnOk, IfErr, OnErr, length};
 ghost use Rattle.std.specs.List.Sorted.{IsSearchInRange};
@@ -16,8 +16,8 @@ use std::alloc::{AllocError, Global};
 use std::cmp::Ordering;
 use std::mem::replace;
 
-/// Gives the key this record among entries whose keys rise, and answers the record that it had.
-/// Where it is refused the entries stay as they are. Takes memory for a new key alone.
+/// Sets the record of a key in entries sorted by key, and returns the record that it had. A refused
+/// call leaves the entries unchanged. Only a new key takes memory.
 pub fn put_entry(
     alloc: Global,
     all: &mut Vec<MstEntry>,
@@ -48,7 +48,7 @@ pub fn put_entry(
     }
 }
 
-/// Takes the key away from entries whose keys rise, and answers the record that it had.
+/// Removes a key from entries sorted by key, and returns the record that it had.
 pub fn remove_entry(all: &mut Vec<MstEntry>, key: &[u8]) -> Option<Cid>
     ensures removed { Rise (entries all.old.items) →
         entries all.new.items ≡ unset_entry key.now (entries all.old.items) }
@@ -61,7 +61,7 @@ pub fn remove_entry(all: &mut Vec<MstEntry>, key: &[u8]) -> Option<Cid>
     }
 }
 
-/// An entry of this key.
+/// Returns an entry of this key and record.
 fn new_entry(alloc: Global, key: &[u8], value: Cid) -> Result<MstEntry, AllocError>
     ensures { IfOk result (λ e. (e.key.items ≡ key.now) × (e.value ≡ value)) }
 {
@@ -69,7 +69,7 @@ fn new_entry(alloc: Global, key: &[u8], value: Cid) -> Result<MstEntry, AllocErr
     Ok(MstEntry { key, value })
 }
 
-/// Where the key stands, or else where it would.
+/// Returns the index of the key, or the index where it would be inserted.
 fn find_place(all: &[MstEntry], key: &[u8]) -> Result<usize, usize>
     ensures bound { IsSearchInRange result (length all.now) }
     ensures place { Rise (entries all.now) → MatchResult result

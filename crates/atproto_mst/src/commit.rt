@@ -12,7 +12,7 @@ use dagcbor_write::to_vec;
 use repository_types::{Commit, UnsignedCommit};
 use std::alloc::{AllocError, Global};
 
-/// What the signature of a commit is of: the spelling of its other fields.
+/// Encodes the commit without its signature: the bytes that are signed.
 pub fn spell_unsigned(alloc: Global, commit: &Commit) -> Result<Vec<u8>, AllocError>
     ensures { IfOk result (λ v. AreSpellingOf (unsigned_tree commit.now) v.items) }
 {
@@ -23,14 +23,14 @@ pub fn spell_unsigned(alloc: Global, commit: &Commit) -> Result<Vec<u8>, AllocEr
         rev: commit.rev.clone()?,
         prev: commit.prev,
     };
-    // Each commit has a spelling, which is refused for want of memory alone.
+    // Every commit can be encoded, so the only refusal is out of memory.
     match to_vec(alloc, &unsigned) {
         Ok(block) => Ok(block),
         Err(_) => Err(AllocError),
     }
 }
 
-/// The commit that the block is, of whatever version.
+/// Decodes a block as a commit, of any version.
 pub(crate) fn read_commit(alloc: Global, block: &[u8]) -> Result<Commit, RepoError>
     ensures { MatchResult result (λ commit. AreSpellingOf (commit_tree commit) block.now)
         (UnreadCommit block.now) }

@@ -1,4 +1,4 @@
-//! What differs between the entries of two trees.
+//! The differences between the entries of two trees.
 
 ghost use Rattle.std.specs.Prelude.{◌≡◌, ◌≢◌, ◌⊎◌, [], ◌∷◌, ◌++◌, List, None, Some, MatchResult, IfOk, OnOk, IfErr};
 ghost use Rattle.ipld_links.specs.Reaching.{stored_in};
@@ -17,18 +17,18 @@ use std::alloc::{AllocError, Global};
 use std::cmp::Ordering;
 use std::collections::BTreeMap;
 
-/// A key whose records differ.
+/// A key whose record differs.
 #[derive(Debug, Drop)]
 pub struct Change {
     pub key: Vec<u8>,
-    /// Its record before, if it had one.
+    /// The record before, `None` if the key was absent.
     pub old: Option<Cid>,
-    /// Its record after, if it has one.
+    /// The record after, `None` if the key is absent.
     pub new: Option<Cid>,
 }
 
-/// The keys whose records differ between the trees that are stored with these roots, in their
-/// order. Both trees are read whole.
+/// Returns the keys whose records differ between the stored trees with these roots, in key order.
+/// Both trees are read whole.
 pub(crate) fn diff_whole(
     alloc: Global,
     blocks: &BTreeMap<Cid, Vec<u8>>,
@@ -50,7 +50,7 @@ pub(crate) fn diff_whole(
     Ok(found)
 }
 
-/// The keys whose records differ between entries whose keys rise, in their order.
+/// Returns the keys whose records differ between two lists of entries sorted by key, in key order.
 pub fn diff_entries(
     alloc: Global,
     old: &[MstEntry],
@@ -104,7 +104,7 @@ fn add_change(
     Ok(())
 }
 
-/// Appends the change between two entries of a key, if their records differ.
+/// Appends the change between two entries of the same key, if their records differ.
 fn add_if_changed(
     alloc: Global,
     one: &MstEntry,
@@ -121,7 +121,7 @@ fn add_if_changed(
     add_change(alloc, &one.key, Some(one.value), Some(other.value), found)
 }
 
-/// Appends the changes of entries that are in the one alone.
+/// Appends the changes of entries that only the first list has.
 fn add_removed(alloc: Global, rest: &[MstEntry], found: &mut Vec<Change>) -> Result<(), AllocError>
     ensures added { OnOk result
         (changes found.new.items ≡ changes found.old.items ++ removed (entries rest.now)) }
@@ -133,7 +133,7 @@ fn add_removed(alloc: Global, rest: &[MstEntry], found: &mut Vec<Change>) -> Res
     Ok(())
 }
 
-/// Appends the changes of entries that are in the other alone.
+/// Appends the changes of entries that only the second list has.
 fn add_added(alloc: Global, rest: &[MstEntry], found: &mut Vec<Change>) -> Result<(), AllocError>
     ensures added { OnOk result
         (changes found.new.items ≡ changes found.old.items ++ added (entries rest.now)) }

@@ -14,35 +14,35 @@ use ipld_tree::Cid;
 use std::alloc::{AllocError, Global};
 use std::cmp::Ordering;
 
-/// The greatest length of a key.
+/// The greatest length of a key, in bytes.
 pub(crate) const LONGEST_KEY: usize = 1024;
 
 /// A key, and the CID of its record.
 #[derive(Debug, Drop)]
 pub struct MstEntry {
-    /// 1 to 1024 bytes: the collection, `/`, and the record's key.
+    /// The collection, `/`, and the record key: 1 to 1024 bytes.
     pub key: Vec<u8>,
     pub value: Cid,
 }
 
-/// Whether the keys are 1 to 1024 bytes, and rise.
+/// Checks that the keys have 1 to 1024 bytes, and rise.
 pub(crate) fn check_entries(all: &[MstEntry]) -> Result<(), MstError>
     ensures { MatchResult result (λ _. AreMstEntries (entries all.now))
         (λ e. EntriesRefused e (entries all.now)) }
 {
-    // What is counted is fewer than 2^64 entries.
+    // Calling `len` gives the proof that there are fewer than 2^64 entries.
     let _count = all.len();
     check_lengths(all)?;
     check_order(all)
 }
 
-/// Whether each key has 1 to 1024 bytes.
+/// Checks that each key has 1 to 1024 bytes.
 fn check_lengths(all: &[MstEntry]) -> Result<(), MstError>
     ensures { MatchResult result (λ _. HaveKeys (entries all.now) × HaveCids (entries all.now))
         (λ e. (e ≡ KeyLength) × ¬ HaveKeys (entries all.now)) }
 {
     for entry in all {
-        // What is known of a CID comes with its version.
+        // Calling `version` gives the proof that this is a CID.
         let _version = entry.value.version();
         let length = entry.key.len();
         if length < 1 || length > LONGEST_KEY {
@@ -52,7 +52,7 @@ fn check_lengths(all: &[MstEntry]) -> Result<(), MstError>
     Ok(())
 }
 
-/// Whether the keys rise.
+/// Checks that the keys rise in the order of bytes.
 fn check_order(all: &[MstEntry]) -> Result<(), MstError>
     ensures { MatchResult result (λ _. Rise (entries all.now))
         (λ e. (e ≡ KeyOrder) × ¬ Rise (entries all.now)) }
@@ -70,7 +70,7 @@ fn check_order(all: &[MstEntry]) -> Result<(), MstError>
     Ok(())
 }
 
-/// The entries beside the layers of their keys.
+/// Pairs each entry with the layer of its key.
 pub(crate) fn place(alloc: Global, all: &[MstEntry]) -> Result<Vec<Placed<'_>>, AllocError>
     ensures { IfOk result (λ v. all_told v.items ≡ leaves (entries all.now)) }
 {
@@ -87,7 +87,7 @@ pub(crate) fn place(alloc: Global, all: &[MstEntry]) -> Result<Vec<Placed<'_>>, 
     Ok(placed)
 }
 
-/// The greatest layer of a leaf, and 0 without leaves.
+/// Returns the greatest layer of a leaf, or 0 if there are no leaves.
 pub(crate) fn top_of(leaves: &[Placed<'_>]) -> u8
     ensures { result ≡ top_layer (all_told leaves.now) }
 {

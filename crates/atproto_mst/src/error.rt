@@ -1,4 +1,4 @@
-//! Why no tree is made, read or searched.
+//! Why a tree is not built, read or searched.
 
 ghost use Rattle.std.specs.Prelude.{◌≡◌};
 
@@ -6,34 +6,34 @@ use ipld_tree::Cid;
 use std::alloc::AllocError;
 use thiserror::Error;
 
-/// Why no tree is made, read or searched. A CID is the name of the node.
+/// Why a tree is not built, read or searched. A CID is that of the node concerned.
 #[derive(Debug, Clone, Copy, Drop, PartialEq, Eq, Error)]
 pub enum MstError {
-    /// Memory was wanted.
+    /// Out of memory.
     #[error("out of memory")]
     OutOfMemory,
-    /// A key has no byte, or more than 1024.
+    /// A key is empty, or has more than 1024 bytes.
     #[error("a key has no byte, or more than 1024")]
     KeyLength,
     /// A key does not come after the one before it in the order of bytes.
     #[error("the keys do not rise")]
     KeyOrder,
-    /// An entry shares more bytes with the key before it than that has.
+    /// An entry claims to share more bytes with the key before it than that key has.
     #[error("an entry shares more bytes with the key before it than that has")]
     KeyFront,
-    /// Nothing is stored under the name.
+    /// No block is stored under this CID.
     #[error("a node is missing")]
     MissingNode(Cid),
-    /// The bytes under the name are not those that it names as a block.
+    /// The bytes stored under this CID do not match it.
     #[error("under the name of a node other bytes are stored")]
     OtherBytes(Cid),
-    /// The block under the name is no node, or has other fields than one.
+    /// The block under this CID is not a node: a field is missing, unknown or of another kind.
     #[error("a block is no node")]
     NoNode(Cid),
-    /// The node stands below 129 others, more than there are layers.
+    /// The node is below 129 others, more than there are layers.
     #[error("nodes stand below each other more deeply than there are layers")]
     TooDeep(Cid),
-    /// The nodes are not those of the tree that their entries have.
+    /// The nodes are not those of the tree that their entries make.
     #[error("the nodes are not those of the tree of their entries")]
     OtherTree,
 }

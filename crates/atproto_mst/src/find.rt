@@ -1,4 +1,4 @@
-//! One record of a tree that is stored.
+//! Finding one record of a stored tree.
 
 ghost use Rattle.std.specs.Prelude.{◌≡◌, ◌⊎◌, [], List, MatchResult, IfOk, IfErr};
 ghost use Rattle.ipld_links.specs.Reaching.{stored_in};
@@ -19,18 +19,18 @@ use std::alloc::{AllocError, Global};
 use std::cmp::Ordering;
 use std::collections::BTreeMap;
 
-/// What a node says of a key.
+/// What a node says about a key.
 #[derive(Debug, Clone, Copy, Drop)]
 pub(crate) enum Sought {
-    /// The key is one of the node, and this is its record.
+    /// The node has the key, and this is its record.
     Record(Cid),
-    /// It is none, and would stand in this tree, if there is one.
+    /// The node lacks the key, which could only be in this subtree, if there is one.
     Below(Option<Cid>),
-    /// An entry before it shares more bytes with the key before that one than it has.
+    /// An entry before it claims to share more bytes with the key before it than that key has.
     KeyFront,
 }
 
-/// What the node says of the key.
+/// Looks up the key in one node.
 pub(crate) fn seek(alloc: Global, node: &Node, key: &[u8]) -> Result<Sought, AllocError>
     ensures { IfOk result (λ s. s ≡ seek_in key.now (node_told node.now)) }
 {
@@ -51,8 +51,9 @@ pub(crate) fn seek(alloc: Global, node: &Node, key: &[u8]) -> Result<Sought, All
     Ok(Sought::Below(before))
 }
 
-/// The record of the key in the tree that is stored with this root, if the tree has one. The nodes
-/// on the path from the root to the key are read, and no others need be stored.
+/// Returns the record of the key in the stored tree with this root, or `None` if the tree lacks the
+/// key. Only the nodes on the path from the root to the key are read, so no others need to be
+/// stored.
 pub fn find_record(
     alloc: Global,
     blocks: &BTreeMap<Cid, Vec<u8>>,

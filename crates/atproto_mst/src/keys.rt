@@ -6,8 +6,7 @@ ghost use Rattle.atproto_mst.specs.Trees.{shared};
 
 use sha2::{Digest, Sha256};
 
-/// The layer of a key: how many of the bits of its SHA-256 are zero before the first that is one,
-/// two to a layer.
+/// Returns the layer of a key: half the number of leading zero bits of its SHA-256, rounded down.
 pub fn layer_of_key(key: &[u8]) -> u8
     ensures value { result ≡ key_layer key.now }
     ensures bound { result ≤ 128 }
@@ -16,7 +15,7 @@ pub fn layer_of_key(key: &[u8]) -> u8
     (leading_zeros(digest.as_slice()) / 2) as u8
 }
 
-/// How many bits are zero before the first that is one.
+/// Returns how many leading bits are zero.
 fn leading_zeros(digest: &[u8]) -> u32
     requires { length digest.now ≤ 32 }
     ensures value { result ≡ zero_bits digest.now }
@@ -32,7 +31,7 @@ fn leading_zeros(digest: &[u8]) -> u32
     zeros
 }
 
-/// How many bytes the second key shares with the first.
+/// Returns how many leading bytes the two keys share.
 pub(crate) fn shared_front(first: &[u8], second: &[u8]) -> usize
     ensures value { result ≡ shared first.now second.now }
     ensures bound { result ≤ length second.now }

@@ -1,4 +1,4 @@
-//! Entries beside the layers of their keys.
+//! Entries with the layers of their keys.
 
 ghost use Rattle.std.specs.Prelude.{◌≡◌, ◌≤◌, ◌+◌, length};
 ghost use Rattle.atproto_mst.specs.Trees.{lower_run};
@@ -6,7 +6,7 @@ ghost use Rattle.atproto_mst.specs.Placed.{all_told, upper_rest};
 
 use ipld_tree::Cid;
 
-/// An entry beside the layer of its key.
+/// An entry with the layer of its key.
 #[derive(Clone, Copy, Debug)]
 pub(crate) struct Placed<'a> {
     pub layer: u8,
@@ -14,7 +14,7 @@ pub(crate) struct Placed<'a> {
     pub value: Cid,
 }
 
-/// How many leaves stand before the first that is not below the layer.
+/// Returns how many leaves come before the first that is not below the layer.
 pub(crate) fn count_lower(leaves: &[Placed<'_>], layer: u8) -> usize
     ensures count { result ≡ length (lower_run layer (all_told leaves.now)) }
     ensures bound { result ≤ length leaves.now }
@@ -29,7 +29,7 @@ pub(crate) fn count_lower(leaves: &[Placed<'_>], layer: u8) -> usize
     count
 }
 
-/// The leaves before the first that is not below the layer, and the others.
+/// Splits the leaves before the first that is not below the layer.
 pub(crate) fn split_lower<'a, 'b>(
     leaves: &'b [Placed<'a>],
     layer: u8,

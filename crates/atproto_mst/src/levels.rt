@@ -1,4 +1,5 @@
-//! A walk down a tree: its entries above a layer, and links to the trees between them.
+//! A walk down a tree, level by level: the entries above a layer, and links to the subtrees between
+//! them.
 
 ghost use Rattle.std.specs.Prelude.{◌≡◌, ◌⊎◌, ◌↔◌, [], ◌∷◌, ◌++◌, List, map, IsTrue};
 ghost use Rattle.std.specs.Prelude.{MatchResult, IfOk, OnOk, IfErr};
@@ -21,24 +22,24 @@ use repository_types::{Entry as Row, Node};
 use std::alloc::{AllocError, Global};
 use std::collections::BTreeMap;
 
-/// An entry, and the tree between its key and the next of the level.
+/// An entry, and the subtree between its key and the next of the level.
 #[derive(Drop)]
 pub(crate) struct LevelEntry {
     pub entry: MstEntry,
     pub after: Option<Cid>,
 }
 
-/// The entries of a tree above a layer, and links to the trees between them.
+/// The entries of a tree above a layer, and links to the subtrees between them.
 #[derive(Drop)]
 pub(crate) struct Level {
-    /// The tree before the first key.
+    /// The subtree before the first key.
     pub left: Option<Cid>,
     pub entries: Vec<LevelEntry>,
-    /// The names of the nodes that were opened on the way to it.
+    /// The CIDs of the nodes opened on the way to this level.
     pub opened: CidSet,
 }
 
-/// Whether the error tells of keys or of the shape of a tree.
+/// Returns whether the error concerns keys or the shape of a tree.
 pub(crate) fn is_of_shape(error: &MstError) -> bool
     ensures { IsTrue result ↔ IsOfShape error.now }
 {
@@ -51,7 +52,7 @@ pub(crate) fn is_of_shape(error: &MstError) -> bool
     }
 }
 
-/// The level of a whole tree: a link to its root.
+/// Returns the level above a whole tree: a link to its root.
 pub(crate) fn whole_level(alloc: Global, root: &Cid) -> Level
     ensures { level_items result ≡ a_link root.now ∷ [] }
 {
@@ -62,7 +63,7 @@ pub(crate) fn whole_level(alloc: Global, root: &Cid) -> Level
     }
 }
 
-/// The names of the links of a level, in their order.
+/// Returns the CIDs of the level's links, in their order.
 pub(crate) fn link_names(alloc: Global, level: &Level) -> Result<Vec<Cid>, AllocError>
     ensures { IfOk result (λ v. v.items ≡ link_names (level_items level.now)) }
 {
@@ -74,7 +75,7 @@ pub(crate) fn link_names(alloc: Global, level: &Level) -> Result<Vec<Cid>, Alloc
     Ok(names)
 }
 
-/// Appends the name, if there is a link.
+/// Appends the link's CID, if there is a link.
 fn push_link(link: &Option<Cid>, names: &mut Vec<Cid>) -> Result<(), AllocError>
     ensures { OnOk result (names.new.items ≡ names.old.items ++ link_names (link_items link.now)) }
 {
@@ -85,7 +86,7 @@ fn push_link(link: &Option<Cid>, names: &mut Vec<Cid>) -> Result<(), AllocError>
     Ok(())
 }
 
-/// The names that stand in both.
+/// Returns the CIDs that are in both lists.
 pub(crate) fn common_names(
     alloc: Global,
     names: &[Cid],
@@ -104,7 +105,7 @@ pub(crate) fn common_names(
     Ok(common)
 }
 
-/// The set of the names.
+/// Collects the CIDs in a set.
 fn set_of(alloc: Global, names: &[Cid]) -> Result<CidSet, AllocError>
     ensures { IfOk result (λ s. (q : CidParts) → Among q (members s) ↔ Among q names.now) }
 {
@@ -115,8 +116,8 @@ fn set_of(alloc: Global, names: &[Cid]) -> Result<CidSet, AllocError>
     Ok(set)
 }
 
-/// The level below, where it is asked for, and else this one. Links of the dropped names are left
-/// out, and in place of each other stands what its node has.
+/// Returns the level below if `asked`, and otherwise this level. Dropped links are left out; each
+/// other link is replaced by what its node has.
 pub(crate) fn open_if(
     alloc: Global,
     blocks: &BTreeMap<Cid, Vec<u8>>,
@@ -136,7 +137,7 @@ pub(crate) fn open_if(
     }
 }
 
-/// The level below.
+/// Returns the level below.
 fn open_level(
     alloc: Global,
     blocks: &BTreeMap<Cid, Vec<u8>>,
@@ -166,7 +167,7 @@ fn open_level(
     })
 }
 
-/// Appends the entry, and what follows it in the level below.
+/// Appends the entry, and what its link opens to in the level below.
 fn open_entry(
     alloc: Global,
     blocks: &BTreeMap<Cid, Vec<u8>>,
@@ -187,8 +188,8 @@ fn open_entry(
     push_rows(alloc, &node, below)
 }
 
-/// The node after the link; one with nothing, where there is no link, or it is dropped. A node that
-/// was opened before is refused.
+/// Returns the node under the link, or an empty one if there is no link or it is dropped. A node
+/// that was opened before is refused.
 fn node_below(
     alloc: Global,
     blocks: &BTreeMap<Cid, Vec<u8>>,
@@ -211,7 +212,7 @@ fn node_below(
     node_at(alloc, blocks, name)
 }
 
-/// Adds the name, if it is new. No tree has a node twice.
+/// Adds the CID to the set, and refuses one that is there already: no tree has a node twice.
 fn add_opened(name: &Cid, opened: &mut CidSet) -> Result<(), MstError>
     ensures { IfErr result (λ e. (e ≡ OutOfMemory) ⊎ IsOfShape e) }
 {
@@ -222,7 +223,7 @@ fn add_opened(name: &Cid, opened: &mut CidSet) -> Result<(), MstError>
     Ok(())
 }
 
-/// A node with nothing.
+/// Returns a node without entries and links.
 fn no_node(alloc: Global) -> Node
     ensures { node_items (node_told result) ≡ [] }
 {
@@ -245,7 +246,8 @@ fn push_rows(alloc: Global, node: &Node, opened: &mut Vec<LevelEntry>) -> Result
     Ok(())
 }
 
-/// Appends the entry of a row, and the link after it, and makes its key of the one before it.
+/// Appends the entry of a row and the link after it. Turns `key`, the key of the row before, into
+/// that of this row.
 fn push_row(
     alloc: Global,
     row: &Row,
@@ -271,7 +273,7 @@ fn push_row(
     push_entry(MstEntry { key, value }, row.t, opened)
 }
 
-/// Appends the entry and the link after it, if its key comes after that of the last.
+/// Appends an entry and the link after it. Refuses a key that is not greater than the last one.
 fn push_entry(
     entry: MstEntry,
     after: Option<Cid>,
@@ -291,7 +293,7 @@ fn push_entry(
     Ok(())
 }
 
-/// The entries of a level without links.
+/// Returns the entries of a level, which must have no links.
 pub(crate) fn only_entries(alloc: Global, level: Level) -> Result<Vec<MstEntry>, MstError>
     ensures all { IfOk result (λ v. level_items level ≡ map an_entry (entries v.items)) }
     ensures refused { IfErr result (λ e. (e ≡ OutOfMemory) ⊎ IsOfShape e) }

@@ -1,4 +1,4 @@
-//! The entries of a tree that is stored.
+//! Reading the entries of a stored tree.
 
 ghost use Rattle.std.specs.Prelude.{◌≡◌, ◌≤◌, ◌⊎◌, [], ℕ, List, length, map};
 ghost use Rattle.std.specs.Prelude.{Decides, MatchResult, IfOk, OnOk, IfErr};
@@ -23,13 +23,13 @@ use repository_types::{Entry as Row, Node};
 use std::alloc::Global;
 use std::collections::BTreeMap;
 
-/// How many nodes stand below each other at most: one a layer, of 0 to 128.
+/// The greatest number of nodes on a path from the root: one for each of the layers 0 to 128.
 pub(crate) const MOST_LAYERS: u8 = 129;
 
-/// The entries of the tree that is stored with this root, in the order of their keys. Each node is
-/// read once, whatever else the map has. The first fault ends the walk, and so does a tree below the
-/// root that has no entry. A node that is linked again has its keys again, so its second reading is
-/// the last one. Records themselves need not be stored.
+/// Returns the entries of the stored tree with this root, in key order. Each of its nodes is read
+/// once; other blocks of the map are ignored. The first fault ends the walk, as does a subtree
+/// without entries. A node that is linked a second time repeats its keys, so that its second
+/// reading ends the walk. The records themselves need not be stored.
 pub fn read_mst(
     alloc: Global,
     blocks: &BTreeMap<Cid, Vec<u8>>,
@@ -51,7 +51,7 @@ pub fn read_mst(
     }
 }
 
-/// The layer of the first key of a root, and 0 without one.
+/// Returns the layer of the root's first key, or 0 if it has no entry.
 pub(crate) fn root_layer(root: &Node) -> u8
     ensures { result ≡ first_layer (node_told root.now).rows }
 {
@@ -61,8 +61,8 @@ pub(crate) fn root_layer(root: &Node) -> u8
     }
 }
 
-/// Appends the entries of the tree of this root, whose keys come after the last, and answers
-/// whether its nodes stand in the layers right below this one.
+/// Appends the entries of the subtree with this root, whose keys must come after the last. Returns
+/// whether its nodes are in the layers right below `above`.
 #[cycle(gather)]
 fn gather(
     alloc: Global,
@@ -88,7 +88,8 @@ fn gather(
     Ok(fits & is_node)
 }
 
-/// Whether a node may stand below this layer: there is a lower one, and it is not empty.
+/// Returns whether a node may be below layer `above`: the layer is not 0, and the node is not
+/// empty.
 fn is_lower(node: &Node, above: u8) -> bool
     ensures { Decides result ((1 ≤ above) × ¬ IsEmpty (node_told node.now)) }
 {
@@ -98,8 +99,8 @@ fn is_lower(node: &Node, above: u8) -> bool
     node.l.is_some() || !node.e.is_empty()
 }
 
-/// Appends the entries of a node and of the trees below it, and answers whether it stands in the
-/// layer, and its trees right below.
+/// Appends the entries of a node and of the subtrees below it. Returns whether the node is in this
+/// layer, and its subtrees are right below.
 #[cycle(gather)]
 fn gather_node(
     alloc: Global,
@@ -123,8 +124,8 @@ fn gather_node(
     Ok(left & rows)
 }
 
-/// Appends the entries of the tree after the link, if there is one, and answers whether it stands
-/// right below the layer. A tree without entries ends the walk.
+/// Appends the entries of the subtree under the link, if there is one. Returns whether it is right
+/// below the layer. A subtree without entries ends the walk.
 #[cycle(gather)]
 fn gather_below(
     alloc: Global,
@@ -153,8 +154,8 @@ fn gather_below(
     Ok(fits)
 }
 
-/// Appends the entries of the rows of a node and of the trees after them, and answers whether they
-/// are of the layer, and the trees right below.
+/// Appends the entries of a node's rows and of the subtrees after them. Returns whether the rows
+/// are of this layer, and the subtrees right below.
 #[cycle(gather)]
 fn gather_rows(
     alloc: Global,
@@ -174,7 +175,7 @@ fn gather_rows(
         (AreRowsOf (IsRightBelow (stored_in blocks.now) layer) layer [] (map row_told rows.now))) }
 {
     let mut fits = true;
-    // The key before in the node is that of the last of so many entries.
+    // How many entries were found up to and including the row before.
     let mut previous = 0;
     for row in rows {
         let is_row = add_row(alloc, row, layer, previous, found)?;
@@ -185,8 +186,8 @@ fn gather_rows(
     Ok(fits)
 }
 
-/// Appends the entry of the row after that entry of its node, and answers whether it is one of the
-/// layer.
+/// Appends the entry of a row. The key before it in its node is that of the last of the first
+/// `previous` entries. Returns whether the row is of this layer.
 fn add_row(
     alloc: Global,
     row: &Row,
@@ -218,7 +219,7 @@ fn add_row(
     Ok(fits)
 }
 
-/// The key of the row after this key of its node.
+/// Returns the key of a row that follows this key in its node.
 fn make_key(alloc: Global, previous: &[u8], row: &Row) -> Result<Vec<u8>, MstError>
     ensures made { IfOk result (λ key. (row.now.p ≤ length previous.now)
         × (key.items ≡ key_of_row previous.now (row_told row.now)) × IsKey key.items) }
@@ -239,7 +240,7 @@ fn make_key(alloc: Global, previous: &[u8], row: &Row) -> Result<Vec<u8>, MstErr
     Ok(key)
 }
 
-/// The key of the last entry, and no byte without one.
+/// Returns the key of the last entry, or an empty slice if there is no entry.
 fn key_of_last(found: &[MstEntry]) -> &[u8]
     ensures { result.now ≡ last_entry_key [] (entries found.now) }
 {

@@ -1,4 +1,4 @@
-//! A repository that is stored.
+//! Reading a stored repository.
 
 ghost use Rattle.std.specs.Prelude.{◌≡◌, List, IfOk, IfErr};
 ghost use Rattle.ipld_links.specs.Reaching.{stored_in};
@@ -18,7 +18,7 @@ use repository_types::Commit;
 use std::alloc::Global;
 use std::collections::BTreeMap;
 
-/// The version of commits.
+/// The only version of commits that is read.
 const VERSION: u8 = 3;
 
 /// A commit, and the records of its tree.
@@ -28,8 +28,8 @@ pub struct Repo {
     pub records: Vec<MstEntry>,
 }
 
-/// The repository whose commit is stored under this name. Of the signature nothing is said:
-/// `spell_unsigned` has what it is of.
+/// Reads the repository whose commit is stored under this CID. The signature is not checked:
+/// `spell_unsigned` returns the bytes that it signs.
 pub fn read_repo(
     alloc: Global,
     blocks: &BTreeMap<Cid, Vec<u8>>,
@@ -42,7 +42,7 @@ pub fn read_repo(
         → IsRepo (stored_in blocks.now) root.now c records → IfErr result (λ e. e ≡ OutOfMemory) }
 {
     let commit = stored_commit(alloc, blocks, root)?;
-    // What is known of a CID comes with its version.
+    // Calling `version` gives the proof that this is a CID.
     let _version = commit.data.version();
     match read_mst(alloc, blocks, &commit.data) {
         Ok(records) => Ok(Repo { commit, records }),
@@ -53,7 +53,8 @@ pub fn read_repo(
     }
 }
 
-/// The commit that is stored under its name.
+/// Reads the commit that is stored under this CID, and checks that its bytes match the CID and that
+/// its version is 3.
 pub fn stored_commit(
     alloc: Global,
     blocks: &BTreeMap<Cid, Vec<u8>>,

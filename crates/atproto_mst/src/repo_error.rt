@@ -11,22 +11,23 @@ use thiserror::Error;
 /// Why a repository is not read.
 #[derive(Debug, Drop, Error)]
 pub enum RepoError {
-    /// Memory was wanted.
+    /// Out of memory.
     #[error("out of memory")]
     OutOfMemory,
-    /// Nothing is stored under the name of the commit.
+    /// No block is stored under the commit's CID.
     #[error("the commit is missing")]
     Missing,
-    /// The bytes under the name of the commit are not those that it names as a block.
+    /// The bytes stored under the commit's CID do not match it.
     #[error("under the name of the commit other bytes are stored")]
     OtherBytes,
-    /// The block is no commit: a field is missing, unknown or of another kind, or it is no block.
+    /// The block is not a commit: it is not DAG-CBOR, or a field is missing, unknown or of another
+    /// kind.
     #[error("the block is no commit: {0}")]
     NoCommit(DecodeError<Infallible>),
-    /// The commit is of this version.
+    /// The commit is of this version, not of version 3.
     #[error("the commit is of version {0}, and not of version 3")]
     OtherVersion(u8),
-    /// The commit's tree is not read.
+    /// The commit's tree is not read, for this reason.
     #[error("the tree of the commit is not read: {0}")]
     Tree(MstError),
 }

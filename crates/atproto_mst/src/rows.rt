@@ -1,4 +1,4 @@
-//! A node as it stands in a block.
+//! Nodes as they are stored in blocks.
 
 ghost use Rattle.std.specs.Prelude.{map, IfOk, MatchOption};
 ghost use Rattle.std.specs.List.{AllByRecursion};
@@ -14,7 +14,7 @@ use ipld_tree::Cid;
 use repository_types::{Entry, Node};
 use std::alloc::{AllocError, Global};
 
-/// The node that the block is spelled of, if it is one: a node with other fields is none.
+/// Decodes a block as a node. Returns `None` if it is not one, such as a map with other fields.
 pub(crate) fn read_node(alloc: Global, block: &[u8]) -> Result<Option<Node>, AllocError>
     ensures { IfOk result (λ found. MatchOption found ((p : NodeParts) → ¬ IsNode block.now p)
         (λ node. IsNode block.now (node_told node))) }
@@ -32,7 +32,7 @@ pub(crate) fn read_node(alloc: Global, block: &[u8]) -> Result<Option<Node>, All
     }
 }
 
-/// Does nothing. What is known of a CID comes with its version.
+/// Does nothing. Calling `version` gives the proof that the link is a CID.
 fn has_cid(link: &Option<Cid>)
     ensures { IsCidIfAny link.now }
 {
@@ -41,7 +41,7 @@ fn has_cid(link: &Option<Cid>)
     }
 }
 
-/// So it is of the CIDs of entries.
+/// Does the same for the CIDs of the entries.
 fn have_cids(rows: &[Entry])
     ensures { AllByRecursion (λ r. AreCidParts r.value × IsCidIfAny r.after)
         (map row_told rows.now) }
@@ -52,12 +52,12 @@ fn have_cids(rows: &[Entry])
     }
 }
 
-/// The block of a node.
+/// Encodes a node as its block.
 pub(crate) fn spell_node(alloc: Global, node: &Node) -> Result<Vec<u8>, AllocError>
     ensures { IfOk result (λ v. IsSpelling v.items
         (tree_of_node (node_told node.now))) }
 {
-    // Each node has a spelling, which is refused for want of memory alone.
+    // Every node can be encoded, so the only refusal is out of memory.
     match to_vec(alloc, node) {
         Ok(block) => Ok(block),
         Err(_) => Err(AllocError),

@@ -1,4 +1,4 @@
-//! What is done with the nodes of a tree.
+//! Receivers of a tree's nodes.
 
 ghost use Rattle.std.specs.Prelude.{◌≡◌, [], ◌∷◌, List, OnOk, IfErr};
 ghost use Rattle.dagcbor_car.specs.Car.{Section};
@@ -7,21 +7,21 @@ ghost use Rattle.atproto_mst.specs.Sinks.{HandsOver, RefusesOne};
 use crate::error::MstError;
 use ipld_tree::Cid;
 
-/// What is done with the nodes of a tree, each after those below it.
+/// A receiver of a tree's nodes, each of which comes after those below it.
 pub trait NodeSink {
     ghost use Rattle.atproto_mst.specs.declared.error.MstError.{MstError};
 
-    /// What the nodes are judged by.
+    /// What decides whether the sink refuses a node.
     ghost World: { Type 0 };
 
-    /// Whether these may be the nodes that it was handed so far, by this.
+    /// The nodes may be those that the sink was handed so far, in this world.
     ghost holds: { Self → World → List Section → Type 0 };
 
-    /// Whether it may refuse a node for this, by that, but for want of memory.
+    /// In this world the sink may refuse the node for this reason, out of memory aside.
     ghost refuses: { World → Section → MstError → Type 0 };
 
-    /// Hands it the name and the block of the next node. One that it refuses changes nothing of
-    /// what it holds.
+    /// Takes the next node's CID and block. A node that is refused leaves what the sink holds
+    /// unchanged.
     fn take(&mut self, name: Cid, block: Vec<u8>) -> Result<(), MstError>
         ensures taken { OnOk result
             (HandsOver holds self.old ((name, block.items) ∷ []) self.new) }

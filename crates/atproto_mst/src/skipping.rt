@@ -1,4 +1,4 @@
-//! What differs between two trees, where the subtrees that both have are left out.
+//! The differences between two trees, found without reading the subtrees that both have.
 
 ghost use Rattle.std.specs.Prelude.{◌≡◌, ◌⊎◌, [], List, MatchResult, IfOk, IfErr};
 ghost use Rattle.ipld_links.specs.Reaching.{stored_in};
@@ -25,11 +25,11 @@ use ipld_tree::Cid;
 use std::alloc::{AllocError, Global};
 use std::collections::BTreeMap;
 
-/// The keys whose records differ between the trees with these roots, in their order. Subtrees that
-/// both have are left out, so the answer is right whether or not they are stored. The roots are
-/// read, but of equal ones nothing is, and there are no changes. No tree has a node below its root
-/// twice, so each is read once on the way down. Where keys or the shape of a tree are wrong, both
-/// trees are read whole, to tell what is; but an answer does not say that they are trees.
+/// Returns the keys whose records differ between the trees with these roots, in key order. Subtrees
+/// that both trees have are skipped, so they need not be stored. Different roots are both read.
+/// Equal roots have no changes, and no block is read. No tree has a node below its root twice, so
+/// each is read once on the way down. If the keys or the shape of a tree are wrong, both trees are
+/// read whole, to find the reason. But an answer does not say that both are valid trees.
 pub fn diff(
     alloc: Global,
     blocks: &BTreeMap<Cid, Vec<u8>>,
@@ -50,7 +50,8 @@ pub fn diff(
     diff_apart(alloc, blocks, old, new)
 }
 
-/// The keys whose records differ between the trees with these roots, of which both are read.
+/// Returns the keys whose records differ between the trees with these roots, both of which are
+/// read.
 fn diff_apart(
     alloc: Global,
     blocks: &BTreeMap<Cid, Vec<u8>>,
@@ -76,7 +77,7 @@ fn diff_apart(
     }
 }
 
-/// The keys whose records differ, by a walk down both trees that leaves out what they share.
+/// Returns the keys whose records differ, by a walk down both trees that skips what they share.
 fn diff_levels(
     alloc: Global,
     blocks: &BTreeMap<Cid, Vec<u8>>,
@@ -106,7 +107,7 @@ fn diff_levels(
     Ok(found)
 }
 
-/// The layer of the root's first key, and 0 where it has none.
+/// Returns the layer of the root's first key, or 0 if the tree is empty.
 fn top_layer_at(alloc: Global, blocks: &BTreeMap<Cid, Vec<u8>>, root: &Cid) -> Result<u8, MstError>
     ensures { MatchResult result
         (λ _. (p : NodeParts) × IsNodeAt (stored_in blocks.now) root.now p)
@@ -117,7 +118,8 @@ fn top_layer_at(alloc: Global, blocks: &BTreeMap<Cid, Vec<u8>>, root: &Cid) -> R
     Ok(root_layer(&node))
 }
 
-/// The levels below, each where it is asked for. Where both are, links of one name are dropped.
+/// Returns, for each tree, the level below if that one is asked for. If both are, links that both
+/// levels have are dropped.
 fn step_down(
     alloc: Global,
     blocks: &BTreeMap<Cid, Vec<u8>>,
@@ -138,7 +140,8 @@ fn step_down(
     Ok((before, after))
 }
 
-/// The names of the links that stand in both levels, where both are opened, and else none.
+/// Returns the CIDs of the links that both levels have if both are opened, and otherwise the empty
+/// set.
 fn dropped_of(
     alloc: Global,
     both: bool,

@@ -1,4 +1,4 @@
-//! A node that is stored under its name.
+//! Reading a stored node.
 
 ghost use Rattle.std.specs.Prelude.{◌≡◌, ◌⊎◌, MatchResult};
 ghost use Rattle.ipld_links.specs.Reaching.{stored_in};
@@ -14,7 +14,7 @@ use repository_types::Node;
 use std::alloc::Global;
 use std::collections::BTreeMap;
 
-/// The node that is stored under the name, of whose bytes the name is.
+/// Reads the node that is stored under this CID, and checks that its bytes match the CID.
 pub(crate) fn node_at(
     alloc: Global,
     blocks: &BTreeMap<Cid, Vec<u8>>,

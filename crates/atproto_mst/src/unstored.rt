@@ -17,7 +17,7 @@ use ipld_tree::Cid;
 use std::alloc::Global;
 use std::collections::BTreeMap;
 
-/// Nodes that are not stored are handed on.
+/// A sink that passes on only the nodes that are not stored.
 #[derive(Drop)]
 struct Unstored<'a, S> {
     blocks: &'a BTreeMap<Cid, Vec<u8>>,
@@ -40,8 +40,8 @@ impl<S: NodeSink> NodeSink for Unstored<'_, S> {
     }
 }
 
-/// As `write_mst`, but hands over only those nodes under whose names nothing is stored: after a
-/// change of entries, the new ones. Answers the sink besides.
+/// Does what `write_mst` does, but hands over only the nodes that are not stored yet: after a
+/// change of entries, the new ones. Returns the sink too.
 pub fn write_changes<S: NodeSink>(
     alloc: Global,
     blocks: &BTreeMap<Cid, Vec<u8>>,

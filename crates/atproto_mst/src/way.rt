@@ -1,4 +1,4 @@
-//! The nodes on the way to a record.
+//! The nodes on the path to a record.
 
 ghost use Rattle.std.specs.Prelude.{◌≡◌, ◌⊎◌, List, IfOk, IfErr};
 ghost use Rattle.ipld_links.specs.Reaching.{stored_in};
@@ -17,8 +17,8 @@ use ipld_tree::Cid;
 use std::alloc::Global;
 use std::collections::BTreeMap;
 
-/// The names of the nodes that `find_record` reads of the tree with this root, from the root on. It
-/// answers the same over these nodes alone, whether the tree has a record of the key or none.
+/// Returns the CIDs of the nodes that `find_record` reads in the tree with this root, from the root
+/// down. `find_record` answers the same over these nodes alone, even if the tree lacks the key.
 pub fn record_way(
     alloc: Global,
     blocks: &BTreeMap<Cid, Vec<u8>>,

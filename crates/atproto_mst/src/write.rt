@@ -1,4 +1,4 @@
-//! The tree of entries.
+//! Building the tree of a list of entries.
 
 ghost use Rattle.std.specs.Prelude.{◌≡◌, ◌⊎◌, ⊤, MatchResult, IfOk, OnOk, IfErr};
 ghost use Rattle.atproto_mst.specs.Keys.{AreMstEntries};
@@ -14,8 +14,9 @@ use ipld_tree::Cid;
 use std::alloc::Global;
 
 /// Hands over the nodes of the tree of these entries, each once and after those below it, and
-/// answers the name of the root, which is the last. Where entries are refused none is handed over;
-/// where memory is wanted or a node refused, the first of them were, and no others.
+/// returns the CID of the root, which comes last. If the entries are refused, no node is handed
+/// over. If memory runs out or the sink refuses a node, only a first part of the nodes was handed
+/// over.
 pub fn write_mst<S: NodeSink>(
     alloc: Global,
     all: &[MstEntry],
@@ -38,7 +39,7 @@ pub fn write_mst<S: NodeSink>(
     name_node(alloc, &leaves, top_of(&leaves), sink)
 }
 
-/// Nodes are not kept.
+/// A sink that keeps no node.
 #[derive(Drop)]
 struct Forgotten;
 
@@ -54,7 +55,7 @@ impl NodeSink for Forgotten {
     }
 }
 
-/// The name of the root of the tree of these entries.
+/// Returns the root CID of the tree of these entries.
 pub fn mst_root(alloc: Global, all: &[MstEntry]) -> Result<Cid, MstError>
     ensures root { IfOk result
         (λ root. root ≡ root_of (entries all.now)) }

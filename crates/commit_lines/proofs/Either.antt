@@ -1,4 +1,4 @@
--- A file proves a record and nothing is told, or a line is told alone.
+-- A file proves a record without an error message, or there is only a message.
 use Rattle.std.proofs.Common.{◌≡◌, ◌⊎◌, inl, inr, ℕ, List, [], ◌∷◌, Bool, true, false, sym, ◌∙◌, subst, Option}
 use Rattle.ipld_tree.specs.Cid.{CidParts}
 use Rattle.ipld_links.specs.Reaching.{Stored}

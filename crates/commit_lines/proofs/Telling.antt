@@ -1,4 +1,4 @@
--- What is said of a commit, and of a record that is proved.
+-- The output for a commit, and for a record that is proved.
 use Rattle.std.proofs.Common.{◌≡◌, ◌⊎◌, inl, inr, ℕ, List, [], ◌∷◌, Bool, true, false, refl, ◌∙◌, subst, sym, Result, Ok, Err, IfErr, IsErrAnd, MatchResult, Vec}
 use Rattle.std.specs.declared.alloc.Global.{Global}
 use Rattle.ipld_tree.specs.Cid.{CidParts}
@@ -31,12 +31,12 @@ no_commit stored root e line refused whole is h = ((λ c k. subst IsOfRepo (whol
 
 -- ---- of a file
 
--- a line that is told alone is told so
+-- a line that is the only message has the form of the relation
 pub said_alone : (IsSaid : Bool → List ℕ → List ℕ → Type 0) (line : List ℕ) (well : Bool) (out told : List ℕ) → IsSaid false [] line → IsToldAlone line well out told → IsSaid well out told
 said_alone IsSaid line well out told is h =
     subst (λ w. IsSaid w out told) (sym h.0) (subst (λ o. IsSaid false o told) (sym h.1) (subst (IsSaid false []) (sym h.2) is))
 
--- what holds of what is said of a root holds of it in other words
+-- what holds for the output for a root holds in other words
 of_roots : (P Q : Stored → CidParts → Bool → List ℕ → List ℕ → Type 0) (stored : Stored) (roots : List CidParts) (well : Bool) (out told : List ℕ) → ((root : CidParts) → P stored root well out told → Q stored root well out told) → OfRoots P stored roots well out told → OfRoots Q stored roots well out told
 of_roots P Q stored [] well out told f h = h
 of_roots P Q stored (root ∷ others) well out told f h = f root h
@@ -45,19 +45,19 @@ pub of_file : (P Q : Stored → CidParts → Bool → List ℕ → List ℕ → 
 of_file P Q b well out told f (inl h) = inl (h.0, h.1, h.2, of_roots P Q h.1 h.0 well out told (f h.1) h.3)
 of_file P Q b well out told f (inr h) = inr h
 
--- what is held of a file tells of its commit
+-- a commit read from the stored blocks of a file is read from the file
 pub commit_read : (b : List ℕ) (roots : List CidParts) (stored : Stored) (r : Result (CidParts × Commit) (Vec ℕ Global)) → IsFileHeld b roots stored → MatchResult r (λ p. (others : List CidParts) × (roots ≡ p.0 ∷ others) × IsStoredCommit stored p.0 p.1) (λ line. OfRoots IsNoCommitTold stored roots false [] line.items) → MatchResult r (λ p. IsCommitFile b p.0 p.1) (λ line. IsNoCommitFile b line.items)
 commit_read b roots stored (Ok p) held h = (h.0, stored, subst (λ rs. IsFileHeld b rs stored) h.1 held, h.2)
 commit_read b roots stored (Err line) held h = inl (roots, stored, held, h)
 
--- what is said of a file's commit
+-- the output for a file's commit
 pub commit_said : (b : List ℕ) (name : CidParts) (c : Commit) (well : Bool) (out told : List ℕ) → IsCommitFile b name c → well ≡ true → out ≡ commit_lines name c → told ≡ [] → OfFile IsCommitSaid b well out told
 commit_said b name c well out told h is lines none = inl (name ∷ h.0, h.1, h.2, inl (c, h.3, is, lines, none))
 
 pub no_commit_said : (b : List ℕ) (line : List ℕ) (well : Bool) (out told : List ℕ) → IsNoCommitFile b line → IsToldAlone line well out told → OfFile IsCommitSaid b well out told
 no_commit_said b line well out told is h = of_file IsNoCommitTold IsCommitSaid b well out told (λ stored root k. inr k) (said_alone (OfFile IsNoCommitTold b) line well out told is h)
 
--- what is said of the key, of a file whose first root is a commit, and of one that has none
+-- the output for the key, for a file whose first root is a commit, and for one without a commit
 pub proof_of_first : (key : List ℕ) (stored : Stored) (roots : List CidParts) (root : CidParts) (c : Commit) (well : Bool) (out told : List ℕ) → ((others : List CidParts) × (roots ≡ root ∷ others) × IsStoredCommit stored root c) → IsProofSaid stored key root c.data well out told → OfRoots (IsProofAt key) stored roots well out told
 proof_of_first key stored roots root c well out told first h =
     of_first (λ r. IsProofAt key stored r well out told) (IsToldAlone no_root_line well out told) roots root first.0 first.1 (inl (c, first.2, h))

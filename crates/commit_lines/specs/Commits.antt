@@ -1,4 +1,4 @@
--- What is said of a repository's commit.
+-- The output for a repository's commit.
 use Rattle.std.specs.Prelude.{◌≡◌, ◌⊎◌, ℕ, List, [], ◌∷◌, ◌++◌, codes, string_bytes, Bool, true, false, Option, None, Some, ⊤}
 use Rattle.ipld_tree.specs.Cid.{CidParts}
 use Rattle.cid_text.specs.Texts.{cid_text}
@@ -18,8 +18,8 @@ abbrev pub prev_text : Option CidParts → List ℕ
 prev_text (Some name) = cid_text name
 prev_text None = codes "none"
 
--- of the commit of this name: its CID, who signs, the revision, the root of the tree, and the commit
--- before. A DID and a revision stand as keys do.
+-- The lines of a commit: its CID, the DID of the account, the revision, the root of the tree, and
+-- the commit before. A DID and a revision are escaped as keys are.
 abbrev pub commit_lines : CidParts → Commit → List ℕ
 commit_lines name c = line (codes "commit " ++ cid_text name)
     ++ (line (codes "did " ++ key_text (string_bytes c.did))
@@ -27,25 +27,25 @@ commit_lines name c = line (codes "commit " ++ cid_text name)
     ++ (line (codes "data " ++ cid_text c.data)
     ++ line (codes "prev " ++ prev_text c.prev))))
 
--- there is no commit of this name, which a line tells
+-- there is no commit of this CID, and an error message says why
 abbrev pub IsNoCommitTold : Stored → CidParts → Bool → List ℕ → List ℕ → Type 0
 IsNoCommitTold stored root well out told = ((c : Commit) → ¬ IsStoredCommit stored root c)
     × ((e : RepoError) × CommitRefused stored root e × IsOfRepo e
     × IsToldAlone (repo_line root e) well out told)
 
--- of the commit of this name: what it says; or that there is none
+-- for the commit of this CID: its fields; or that there is none
 abbrev pub IsCommitSaid : Stored → CidParts → Bool → List ℕ → List ℕ → Type 0
 IsCommitSaid stored root well out told = ((c : Commit) × IsStoredCommit stored root c
     × (well ≡ true) × (out ≡ commit_lines root c) × (told ≡ []))
     ⊎ IsNoCommitTold stored root well out told
 
--- what is said of roots and what is stored: this of the first root; or that there is none
+-- for roots and stored blocks: the output for the first root; or that there is no root
 abbrev pub OfRoots : (Stored → CidParts → Bool → List ℕ → List ℕ → Type 0)
     → Stored → List CidParts → Bool → List ℕ → List ℕ → Type 0
 OfRoots IsSaid stored roots well out told =
     OfFirstRoot (λ root. IsSaid stored root well out told) (IsToldAlone no_root_line well out told) roots
 
--- what is said of a file: that of its roots and sections; or why the bytes are no file
+-- for a file: the output for its roots and blocks; or why the bytes are not a CAR file
 abbrev pub OfFile : (Stored → CidParts → Bool → List ℕ → List ℕ → Type 0)
     → List ℕ → Bool → List ℕ → List ℕ → Type 0
 OfFile IsSaid b well out told = ((roots : List CidParts) × (stored : Stored)
@@ -54,12 +54,12 @@ OfFile IsSaid b well out told = ((roots : List CidParts) × (stored : Stored)
 
 -- ---- of a file
 
--- the bytes are a file whose first root names this commit, which is stored; of its other blocks nothing
--- is said
+-- the bytes are a CAR file whose first root is this commit, which is stored; nothing is required of
+-- other blocks
 abbrev pub IsCommitFile : List ℕ → CidParts → Commit → Type 0
 IsCommitFile b name c = (others : List CidParts) × (stored : Stored)
     × IsFileHeld b (name ∷ others) stored × IsStoredCommit stored name c
 
--- they are no such file, and the line tells why
+-- the bytes are not such a file, and the line says why
 abbrev pub IsNoCommitFile : List ℕ → List ℕ → Type 0
 IsNoCommitFile b line = OfFile IsNoCommitTold b false [] line

@@ -1,10 +1,10 @@
--- The words of `commit`, `record-proof` and `records --json`.
+-- The arguments of `commit`, `record-proof` and `records --json`.
 use Rattle.std.specs.Prelude.{◌≡◌, ℕ, List, [], ◌∷◌, codes, Option, None, Some}
 use Rattle.commit_lines.specs.declared.words.CommitAsked.{CommitAsked}
 use Rattle.commit_lines.specs.declared.words.CommitAsked.TheVariants as asks
 
--- the words ask this of a repository: `commit`, or `record-proof` and the word of a key, or `records
--- --json`; and then the file, if one is named
+-- the arguments ask this: `commit`, or `record-proof` and the word of a key, or `records --json`;
+-- and then the file, if one is given
 abbrev pub AreCommitWords : List (List ℕ) → CommitAsked → Option (List ℕ) → Type 0
 AreCommitWords words asks.Commit None = words ≡ codes "commit" ∷ []
 AreCommitWords words asks.Commit (Some file) = words ≡ codes "commit" ∷ file ∷ []

@@ -1,4 +1,4 @@
-//! `commit`: what a repository's commit says.
+//! `commit`: the fields of a repository's commit.
 
 ghost use Rattle.std.specs.Prelude.{◌≡◌, List, [], ◌∷◌, ◌++◌, codes, string_bytes, false, IfOk};
 ghost use Rattle.std.specs.Prelude.{IfSome, OnOk, MatchResult};
@@ -22,7 +22,7 @@ use std::alloc::{AllocError, Global};
 use std::collections::BTreeMap;
 use std::io::{BufRead, Write};
 
-/// A commit and its name, or the line that tells why there is none.
+/// A commit and its CID, or the line that says why there is none.
 pub type CommitFound = Result<(Cid, Commit), Vec<u8>>;
 
 /// Appends a line of a word and a CID.
@@ -34,7 +34,7 @@ fn push_cid(word: &[u8], name: &Cid, out: &mut Vec<u8>) -> Result<(), AllocError
     out.extend_from_slice(b"\n")
 }
 
-/// Appends a line of a word and a text, which stands as a key does.
+/// Appends a line of a word and a text, escaped as keys are.
 fn push_text(word: &[u8], text: &String, out: &mut Vec<u8>) -> Result<(), AllocError>
     ensures { OnOk result (out.new.items
         ≡ out.old.items ++ line (word.now ++ key_text (string_bytes text.now))) }
@@ -44,7 +44,7 @@ fn push_text(word: &[u8], text: &String, out: &mut Vec<u8>) -> Result<(), AllocE
     out.extend_from_slice(b"\n")
 }
 
-/// Appends the line of the commit before.
+/// Appends the line with the CID of the commit before.
 fn push_prev(prev: &Option<Cid>, out: &mut Vec<u8>) -> Result<(), AllocError>
     ensures { OnOk result (out.new.items ≡ out.old.items ++ line (codes "prev " ++ prev_text prev.now)) }
 {
@@ -54,7 +54,7 @@ fn push_prev(prev: &Option<Cid>, out: &mut Vec<u8>) -> Result<(), AllocError>
     }
 }
 
-/// The lines of the commit of this name.
+/// Returns the lines of the commit of this CID.
 fn lines_of(alloc: Global, name: &Cid, commit: &Commit) -> Result<Vec<u8>, AllocError>
     ensures { IfOk result (λ v. v.items ≡ commit_lines name.now commit.now) }
 {
@@ -67,7 +67,7 @@ fn lines_of(alloc: Global, name: &Cid, commit: &Commit) -> Result<Vec<u8>, Alloc
     Ok(out)
 }
 
-/// The commit of this name, or the line that tells why there is none.
+/// Reads the commit of this CID, or returns the line that says why there is none.
 fn commit_at(
     alloc: Global,
     blocks: &BTreeMap<Cid, Vec<u8>>,
@@ -85,8 +85,8 @@ fn commit_at(
     }
 }
 
-/// The commit that the first root names, of what is held of a file; or the line that tells why there
-/// is none.
+/// Reads the commit that is the first root of a file, or returns the line that says why there is
+/// none.
 pub(crate) fn commit_of(alloc: Global, held: &Held) -> Result<CommitFound, AllocError>
     ensures { IfOk result (λ r. MatchResult r
         (λ p. (others : List CidParts) × (held.now.roots.items ≡ p.0 ∷ others)
@@ -103,8 +103,8 @@ pub(crate) fn commit_of(alloc: Global, held: &Held) -> Result<CommitFound, Alloc
     }
 }
 
-/// Reads the commit that the first root of a CAR file names, or the line that says why there is none. Of
-/// the file's blocks only the commit's is needed. All blocks are in memory until it is read.
+/// Reads the commit that is the first root of a CAR file, or returns the line that says why there
+/// is none. No other block of the file is needed. All blocks are in memory during the call.
 pub fn read_commit<R: BufRead>(alloc: Global, input: &mut R) -> Result<CommitFound, ToolError>
     ensures { IfSome (R.remaining input.old) (λ b. IfOk result (λ r. MatchResult r
         (λ p. IsCommitFile b p.0 p.1) (λ line. IsNoCommitFile b line.items))) }
@@ -119,7 +119,7 @@ pub fn read_commit<R: BufRead>(alloc: Global, input: &mut R) -> Result<CommitFou
     }
 }
 
-/// What `commit` prints of a CAR file.
+/// Returns what `commit` prints for a CAR file.
 fn commit_in<R: BufRead>(alloc: Global, input: &mut R) -> Result<Answer, ToolError>
     ensures { IfSome (R.remaining input.old)
         (λ b. IfOk result (λ p. OfFile IsCommitSaid b p.0.1 p.0.0.items p.1.items)) }
@@ -134,8 +134,8 @@ fn commit_in<R: BufRead>(alloc: Global, input: &mut R) -> Result<Answer, ToolErr
     }
 }
 
-/// Writes what the commit says that the file's first root names, or tells why there is none. Whether
-/// there is one. The blocks of the input are in memory.
+/// Writes the fields of the commit that is the file's first root, or an error message that says why
+/// there is none. Returns whether there is one. The blocks of the input are in memory.
 pub fn write_commit<R: BufRead, W: Write, V: Write>(
     alloc: Global,
     input: &mut R,

@@ -1,4 +1,5 @@
-//! What programs write of a repository's commit, and the file that proves a record (AT Protocol).
+//! What programs write about a repository's commit, and the CAR file that proves a record (AT
+//! Protocol).
 #![tactic(auto)]
 
 mod commit;

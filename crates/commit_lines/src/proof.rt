@@ -1,4 +1,4 @@
-//! `record-proof`: the file that proves a record.
+//! `record-proof`: the CAR file that proves a record.
 
 ghost use Rattle.std.specs.Prelude.{◌≡◌, ◌⊎◌, [], ◌∷◌, Some, IfOk, IfErr, IfSome, MatchOption};
 ghost use Rattle.ipld_tree.specs.Cid.{CidParts, cid_bytes};
@@ -29,7 +29,7 @@ use std::alloc::{AllocError, Global};
 use std::collections::BTreeMap;
 use std::io::{BufRead, Write};
 
-/// What is told of bytes that are not those that the record's name says; of those, nothing.
+/// Returns the error message for bytes that do not match the record's CID, `None` if they do.
 fn other_told(alloc: Global, name: &Cid, bytes: &[u8]) -> Result<Option<Answer>, AllocError>
     ensures { IfOk result (λ o. MatchOption o (IsVerified (name.now, bytes.now))
         (λ p. AreOtherBytesTold name.now bytes.now p.0.1 p.0.0.items p.1.items)) }
@@ -48,7 +48,8 @@ fn other_told(alloc: Global, name: &Cid, bytes: &[u8]) -> Result<Option<Answer>,
     }
 }
 
-/// What is told of the record of this name if it is not there, or other bytes are.
+/// Returns the error message for a record that is missing or has other bytes, `None` if it is
+/// stored.
 fn lost_told(
     alloc: Global,
     blocks: &BTreeMap<Cid, Vec<u8>>,
@@ -66,7 +67,7 @@ fn lost_told(
     }
 }
 
-/// The same of a record, if there is one.
+/// Does the same for a record, `None` if there is no record.
 fn lost_of(
     alloc: Global,
     blocks: &BTreeMap<Cid, Vec<u8>>,
@@ -82,7 +83,8 @@ fn lost_of(
     }
 }
 
-/// The names of the blocks that decide.
+/// Returns the CIDs of the blocks that decide: the commit, the nodes on the way, and the record, if
+/// there is one.
 fn names_of(
     alloc: Global,
     root: &Cid,
@@ -100,7 +102,7 @@ fn names_of(
     Ok(names)
 }
 
-/// The file of the root, and of the blocks of these names.
+/// Encodes the CAR file with this root and the blocks of these CIDs.
 fn file_of(
     alloc: Global,
     root: &Cid,
@@ -117,7 +119,7 @@ fn file_of(
     }
 }
 
-/// The names of the nodes on the way to the key, and its record, if the tree has one.
+/// Returns the CIDs of the nodes on the way to the key, and its record, if the tree has one.
 fn sought(
     alloc: Global,
     blocks: &BTreeMap<Cid, Vec<u8>>,
@@ -135,7 +137,8 @@ fn sought(
     Ok((way, found))
 }
 
-/// The file that proves the record, or that there is none; or what is told of a record that is lost.
+/// Returns the CAR file that proves the record or its absence, or the error message for a record
+/// that is not stored.
 fn found_said(
     alloc: Global,
     blocks: &BTreeMap<Cid, Vec<u8>>,
@@ -155,7 +158,7 @@ fn found_said(
     Ok(((file, true), Vec::new(alloc)))
 }
 
-/// What is said of the key in the tree of this root, whose commit has this name.
+/// Returns the answer for the key in the tree of this root, whose commit has this CID.
 fn proof_said(
     alloc: Global,
     blocks: &BTreeMap<Cid, Vec<u8>>,
@@ -175,7 +178,7 @@ fn proof_said(
     }
 }
 
-/// What is said of the key, in what is held of a file.
+/// Returns the answer for the key, in the stored blocks of a file.
 fn proof_of(alloc: Global, held: &Held, key: &[u8]) -> Result<Answer, AllocError>
     ensures { IfOk result (λ p. OfRoots (IsProofAt key.now) (stored_in held.now.blocks)
         held.now.roots.items p.0.1 p.0.0.items p.1.items) }
@@ -186,10 +189,10 @@ fn proof_of(alloc: Global, held: &Held, key: &[u8]) -> Result<Answer, AllocError
     }
 }
 
-/// The file that proves which record the key has, or that it has none, in the tree of the commit that
-/// the first root names of the file which the input is; or what is told where there is none. The
-/// commit, the nodes on the way to the key and the record need be there, and no others. The blocks of
-/// the input are in memory.
+/// Returns the CAR file that proves which record the key has, or that it has none, in the tree of
+/// the commit that is the input's first root. If there is no such file, returns an error message.
+/// Only the commit, the nodes on the way to the key and the record must be in the input. The blocks
+/// of the input are in memory.
 pub fn record_proof<R: BufRead>(
     alloc: Global,
     key: &[u8],
@@ -208,9 +211,9 @@ pub fn record_proof<R: BufRead>(
     }
 }
 
-/// Writes the file that proves the record of the key which the word names, as `record_proof` has it,
-/// or tells why there is none. Whether there is one. The word is the key as `records` prints it; a
-/// word that is no key's text is the key itself.
+/// Writes the CAR file of `record_proof` for the key that the word names, or an error message that
+/// says why there is none. Returns whether it was written. The word is the key as `records` prints
+/// it. A word that is not such a text is the key itself.
 pub fn write_record_proof<R: BufRead, W: Write, V: Write>(
     alloc: Global,
     word: &str,

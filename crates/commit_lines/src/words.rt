@@ -1,28 +1,28 @@
-//! The words of `commit`, `record-proof` and `records --json`.
+//! The arguments of `commit`, `record-proof` and `records --json`.
 
 ghost use Rattle.std.specs.Prelude.{[], ◌∷◌, map, string_bytes, option_map, MatchOption, Option, List, ℕ};
 ghost use Rattle.commit_lines.specs.Words.{AreCommitWords};
 ghost use Rattle.commit_lines.specs.declared.words.CommitAsked.{CommitAsked};
 
-/// What is asked of a repository.
+/// A question about a repository.
 #[derive(Clone, Copy)]
 pub enum CommitAsked<'a> {
-    /// What its commit says.
+    /// The fields of its commit.
     Commit,
-    /// The file that proves the record of the key that this word names.
+    /// The CAR file that proves the record of the key that this word names.
     Proof(&'a str),
     /// The data of all records, as DAG-JSON.
     Records,
 }
 
-/// What is asked of which file: of standard input, if none is named.
+/// A question, and the file that it is about: `None` for standard input.
 #[derive(Clone, Copy)]
 pub struct CommitWords<'a> {
     pub asked: CommitAsked<'a>,
     pub file: Option<&'a str>,
 }
 
-/// The word and no more.
+/// Parses one argument.
 fn of_word<'a>(word: &str) -> Option<CommitWords<'a>>
     ensures { MatchOption result
         ((asked : CommitAsked) (file : Option (List ℕ)) → ¬ AreCommitWords (word.now ∷ []) asked file)
@@ -37,7 +37,7 @@ fn of_word<'a>(word: &str) -> Option<CommitWords<'a>>
     })
 }
 
-/// The word, and a file or a key.
+/// Parses two arguments: the word, and a file, a key or an option.
 fn of_two<'a>(word: &str, second: &'a str) -> Option<CommitWords<'a>>
     ensures { MatchOption result
         ((asked : CommitAsked) (file : Option (List ℕ))
@@ -62,7 +62,7 @@ fn of_two<'a>(word: &str, second: &'a str) -> Option<CommitWords<'a>>
     }
 }
 
-/// The word, a key or an option, and a file.
+/// Parses three arguments: the word, a key or an option, and a file.
 fn of_three<'a>(word: &str, second: &'a str, file: &'a str) -> Option<CommitWords<'a>>
     ensures { MatchOption result
         ((asked : CommitAsked) (it : Option (List ℕ))
@@ -83,7 +83,7 @@ fn of_three<'a>(word: &str, second: &'a str, file: &'a str) -> Option<CommitWord
     }
 }
 
-/// What the words `commit [FILE]`, `record-proof KEY [FILE]` or `records --json [FILE]` ask.
+/// Parses the arguments `commit [FILE]`, `record-proof KEY [FILE]` or `records --json [FILE]`.
 pub fn commit_words_of(args: &[String]) -> Option<CommitWords<'_>>
     ensures { MatchOption result
         ((asked : CommitAsked) (file : Option (List ℕ))

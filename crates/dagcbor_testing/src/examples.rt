@@ -1,4 +1,4 @@
-//! What values of the examples are written and read as, by whichever way their types are made.
+//! How values of the examples are written and read, whichever way their types are implemented.
 
 use crate::reads::each_answers;
 use serde_ipld_dagcbor::{Deserialize, Serialize};
@@ -7,10 +7,10 @@ use std::fmt::Debug;
 use std::test::Fail;
 use tests_shared::writes;
 
-/// The note of the year 23 and of the text "hi".
+/// The note with the year 23 and the text "hi".
 const NOTE: &[u8] = b"\xa2\x64text\x62hi\x64year\x17";
 
-/// Blocks, and what they are read as.
+/// Blocks, and the answers of reading them.
 const NOTES: &[(&[u8], &str)] = &[
     (NOTE, r#"Ok(Note { year: 23, text: "hi" })"#),
     // 18 17 spells 23 in two bytes, where one is enough.
@@ -20,8 +20,8 @@ const NOTES: &[(&[u8], &str)] = &[
     ),
 ];
 
-/// Fails where the note of the year 23 and of the text "hi" is written otherwise, or where it or
-/// another spelling of it, however the bytes come, is read otherwise.
+/// Fails if the note with the year 23 and the text "hi" is written otherwise, or if it, or another
+/// spelling of it, is read otherwise, whatever pieces the bytes come in.
 pub fn note_goes_both_ways<'de, T: Serialize + Deserialize<'de> + Debug + Drop>(
     alloc: Global,
     note: &T,
@@ -30,9 +30,9 @@ pub fn note_goes_both_ways<'de, T: Serialize + Deserialize<'de> + Debug + Drop>(
     each_answers::<T>(alloc, NOTES)
 }
 
-/// What an album of two tracks is read as.
+/// The answer of reading an album of two tracks.
 pub const BLUE_TOLD: &str =
     r#"Ok(Album { year: Some(1971), title: "Blue", format: Vinyl, tracks: [Track { note: Some("take 2"), title: "Carey", seconds: 182 }, Track { note: None, title: "River", seconds: 244 }] })"#;
 
-/// What an album of no year and no track is read as.
+/// The answer of reading an album without a year and tracks.
 pub const DEMO_TOLD: &str = r#"Ok(Album { year: None, title: "Demo", format: Tape, tracks: [] })"#;

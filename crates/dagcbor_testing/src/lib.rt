@@ -1,5 +1,5 @@
-//! What tests of types that are read share: reads that must agree however the bytes come, and devices
-//! of a caller's own.
+//! What tests of types that are read share: reads that must agree whatever pieces the bytes come
+//! in, and devices of a caller's own.
 #![tactic(auto)]
 
 mod alike;

@@ -1,4 +1,4 @@
-//! Devices of a caller's own: a reader that shows little a fill and may fail, and a writer that
+//! Devices of a caller's own: a reader that shows few bytes a fill and may fail, and a writer that
 //! fails.
 
 ghost use Rattle.std.specs.Prelude.{◌≡◌, [], ◌++◌, List, ℕ};
@@ -7,7 +7,8 @@ use serde_ipld_dagcbor::{EncodeError, Read, Tally, Write};
 use std::alloc::Global;
 use std::marker::Model;
 
-/// Shows at most so many bytes a fill, and one at least, and faults with 7 at one of its fills.
+/// A reader that shows at most `size` bytes a fill, but at least one, and faults with 7 at one of
+/// its fills.
 #[derive(Drop)]
 pub struct Pieces<'a> {
     rest: &'a [u8],
@@ -99,7 +100,7 @@ impl Read for Pieces<'_> {
     }
 }
 
-/// Takes so many pushes, and faults with 9 at the next.
+/// A writer that takes a given number of pushes, and faults with 9 at the next.
 #[derive(Drop)]
 pub struct FaultyWriter {
     held: Vec<u8>,

@@ -1,4 +1,4 @@
-//! What a typed read answers, however the bytes come.
+//! The answers of typed reads, whatever pieces the bytes come in.
 
 use crate::own_devices::Pieces;
 use serde_ipld_dagcbor::{Deserialize, Deserializer, IoReader, Read, ReadResult, from_slice};
@@ -7,7 +7,7 @@ use std::fmt::Debug;
 use std::test::Fail;
 use tests_shared::{Source, is_told};
 
-/// Fails where a read answers anything but this, as text.
+/// Fails if a read gives any other answer, as text.
 pub fn tells<'de, T: Deserialize<'de> + Debug>(
     alloc: Global,
     bytes: &'de [u8],
@@ -16,7 +16,7 @@ pub fn tells<'de, T: Deserialize<'de> + Debug>(
     is_told(alloc, &from_slice::<T>(alloc, bytes), wanted)
 }
 
-/// The one value that a reader holds.
+/// Reads the only value of a reader.
 fn whole<'de, T: Deserialize<'de> + Drop, R: Read + Drop>(
     alloc: Global,
     reader: R,
@@ -27,8 +27,8 @@ fn whole<'de, T: Deserialize<'de> + Drop, R: Read + Drop>(
     Ok(value)
 }
 
-/// Fails where a read of the slice answers anything but this, as text, or one of a source of std or
-/// of a reader of a caller's own that shows one byte a fill.
+/// Fails if a read of the slice gives any other answer, as text, or a read of a source of std or of
+/// a caller's own reader that shows one byte a fill.
 pub fn answers<'de, T: Deserialize<'de> + Debug + Drop>(
     alloc: Global,
     bytes: &'de [u8],
@@ -40,8 +40,8 @@ pub fn answers<'de, T: Deserialize<'de> + Debug + Drop>(
     is_told(alloc, &whole::<T, _>(alloc, Pieces::new(bytes, 1)), wanted)
 }
 
-/// Fails where a read of a row's bytes, however they come, answers anything but what is beside
-/// them, as text.
+/// Fails if a read of a row's bytes gives any other answer than the row's, as text, whatever pieces
+/// the bytes come in.
 pub fn each_answers<'de, T: Deserialize<'de> + Debug + Drop>(
     alloc: Global,
     rows: &[(&'de [u8], &str)],

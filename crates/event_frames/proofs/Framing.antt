@@ -50,11 +50,11 @@ two_items b header behind body rest first is second more = record {
 front_behind : (b t_bytes rest : List ℕ) (t : Tree) → IsSpelling t_bytes t → b ≡ t_bytes ++ rest → IsFront b t rest
 front_behind b t_bytes rest t h e = record { well_formed = h.well_formed; spellable = h.spellable; is = e ∙ ap (λ x. x ++ rest) h.is }
 
--- an item stands first where it is spelled there
+-- bytes that begin with the spelling of an item begin with an item
 item_there : (b item rest : List ℕ) (t : Tree) → IsSpelling item t → b ≡ item ++ rest → HasNoItem b → ⊥
 item_there b item rest t h e none = one_found (λ (s : List ℕ). s) b rest t None none (front_behind b item rest t h e)
 
--- and ends where its heads say
+-- and it ends where its heads say
 same_end : (b item rest behind : List ℕ) (t : Tree) → IsSpelling item t → b ≡ item ++ rest → EndByHeads b 1 behind → behind ≡ rest
 same_end b item rest behind t h e ends = one_found (λ (s : List ℕ). s) b rest t (Some behind) ends (front_behind b item rest t h e)
 
@@ -80,7 +80,7 @@ no_none : (d : Decoded Tree) → answer d ≡ Err None → ⊥
 no_none (got t rest) e = cc e
 no_none (refused why left) e = cc e
 
--- a refusal of a body that is no block
+-- a refusal of a body that is not a block
 pub refused_other : (b : List ℕ) (e : DecodeError Infallible) → Err (why_of e) ≡ answer (decode b) → (HasBlock b → ⊥) × (e ≢ unread.OutOfMemory)
 refused_other b e h = (λ k. refused_no_block b e k.0 (sym h) k.1, λ is. no_none (decode b) (sym h ∙ ap (λ x. Err (why_of x)) is))
 
@@ -157,7 +157,7 @@ same_place op name (kind.Other n) kind.Info h k = absurd (h.2.4 (some_name _ _ (
 same_place op name (kind.Other n) kind.Error h k = absurd (other_op (sym h.0 ∙ k))
 same_place op name (kind.Other n) (kind.Other m) h k = refl
 
--- no body of a kind is one of a kind at the same place
+-- a body that is not of a kind is not of another kind at the same place
 body_at : (body : List ℕ) (k l : Kind) → place k ≡ place l → IsNoBody k body → IsNoBody l body
 body_at body kind.Commit kind.Commit e h = h
 body_at body kind.Commit kind.Sync e h = absurd (omega (arith, e))
@@ -265,7 +265,7 @@ no_body body (kind.Other n) (frame.Other f) none h = none h.1
 nothing : {a : List ℕ} → None ≡ Some a → ⊥
 nothing e = cc e
 
--- a header that says no kind says none
+-- a header refused for its operation or kind has no kind
 no_kind : (op : ℤ) (name : Option (List ℕ)) (e : FrameError) (k : Kind) → NoKindFor op name e → IsKind op name k → ⊥
 no_kind op name error.OutOfMemory k h i = absurd h
 no_kind op name error.NoEnd k h i = absurd h
@@ -370,7 +370,7 @@ no_end b (inr w) f rest h =
     let same = same_end b h.header (h.body ++ rest) w.0 s.0 s.1 h.is w.1 in
     item_there w.0 h.body rest t.0 t.1 same w.2
 
--- the parts of a frame are those that its heads tell
+-- the parts of a frame are those given by its heads
 same_parts : (b header body rest more : List ℕ) (f : Frame) (s : SplitsFrame b header body rest) (h : IsFrame b f more) → (header ≡ h.header) × (body ≡ h.body)
 same_parts b header body rest more f s h =
     let x = spelled_header h.header h.told.0 h.told.1 in

@@ -86,7 +86,7 @@ IsCommitBody body f = IsWhole commit_event_shape default_steps body (commit_told
 abbrev pub IsSyncBody : List ℕ → SyncFrame → Type 0
 IsSyncBody body f = IsWhole sync_event_shape default_steps body (sync_told f.event) × HasFile body f.blocks.now
 
--- the bytes are the body of the frame, of its kind; of another kind they are any block
+-- the bytes are a body of this kind, decoded as the frame; the body of another kind is any block
 abbrev pub IsBody : Kind → List ℕ → Frame → Type 0
 IsBody kind.Commit body (frame.Commit f) = IsCommitBody body f
 IsBody kind.Sync body (frame.Sync f) = IsSyncBody body f
@@ -99,13 +99,13 @@ IsBody _ body _ = ⊥
 
 -- ---- why it is not read
 
--- want of memory; or the body is none, for this cause of the reader
+-- out of memory; or the body is not valid, for this cause
 abbrev pub BodyRefused : Type 0 → FrameError → Type 0
 BodyRefused none error.OutOfMemory = ⊤
 BodyRefused none (error.NoBody e) = none × (e ≢ unread.OutOfMemory)
 BodyRefused none _ = ⊥
 
--- the bytes are no body of the kind
+-- the bytes are not a body of the kind
 abbrev pub IsNoBody : Kind → List ℕ → Type 0
 IsNoBody kind.Commit body = HoldsNoValue commit_event_shape default_steps body ⊎ HoldsNoValue event_blocks_shape default_steps body
 IsNoBody kind.Sync body = HoldsNoValue sync_event_shape default_steps body ⊎ HoldsNoValue event_blocks_shape default_steps body

@@ -1,16 +1,16 @@
--- The kind that a frame's header says (AT Protocol specification, event stream).
+-- The kind that a frame's header names (AT Protocol specification, event stream).
 use Rattle.std.specs.Prelude.{◌≡◌, ◌≢◌, ℕ, ℤ, pos, negsuc, List, Option, None, Some, codes, string_bytes}
 use Rattle.event_frames.specs.declared.error.FrameError.{FrameError}
 use Rattle.event_frames.specs.declared.error.FrameError.TheVariants as error
 use Rattle.event_frames.specs.declared.kind.Kind.{Kind}
 use Rattle.event_frames.specs.declared.kind.Kind.TheVariants as kind
 
--- a name that is none of the kinds
+-- a name that is not one of the known kinds
 abbrev pub IsOtherName : List ℕ → Type 0
 IsOtherName name = (name ≢ codes "#commit") × (name ≢ codes "#sync") × (name ≢ codes "#identity")
     × (name ≢ codes "#account") × (name ≢ codes "#info")
 
--- the operation 1 has a kind by its name, and -1 is an error
+-- the kind of an operation and a name: 1 has a kind by its name, and -1 is an error
 abbrev pub IsKind : ℤ → Option (List ℕ) → Kind → Type 0
 IsKind op name kind.Commit = (op ≡ pos 1) × (name ≡ Some (codes "#commit"))
 IsKind op name kind.Sync = (op ≡ pos 1) × (name ≡ Some (codes "#sync"))
@@ -20,7 +20,7 @@ IsKind op name kind.Info = (op ≡ pos 1) × (name ≡ Some (codes "#info"))
 IsKind op name kind.Error = op ≡ negsuc 0
 IsKind op name (kind.Other other) = (op ≡ pos 1) × (name ≡ Some (string_bytes other)) × IsOtherName (string_bytes other)
 
--- why it says none
+-- why there is no kind
 abbrev pub NoKindFor : ℤ → Option (List ℕ) → FrameError → Type 0
 NoKindFor op name error.NoKind = (op ≡ pos 1) × (name ≡ None)
 NoKindFor op name (error.OtherOperation n) = (op ≡ n) × (n ≢ pos 1) × (n ≢ negsuc 0)

@@ -1,4 +1,4 @@
-//! The blocks of an event, which lie in its frame.
+//! The blocks of an event, borrowed from its frame.
 
 ghost use Rattle.event_frames.specs.Blocks.{EventBlocksView, event_blocks_shape};
 
@@ -7,7 +7,7 @@ use serde_ipld_dagcbor::{
 };
 use std::alloc::Global;
 
-/// The field `blocks` of an event: a CAR file, which is not copied.
+/// The field `blocks` of an event: a CAR file, borrowed.
 #[derive(Clone, Copy, Debug, Drop)]
 pub struct EventBlocks<'a> {
     pub blocks: ByteSlice<'a>,

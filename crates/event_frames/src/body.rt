@@ -15,21 +15,21 @@ use dagcbor_read::{Deserialize, from_slice};
 use event_types::{AccountEvent, CommitEvent, ErrorEvent, IdentityEvent, InfoEvent, SyncEvent};
 use std::alloc::Global;
 
-/// A commit, and the CAR file with it.
+/// A commit, and the CAR file in its event.
 #[derive(Debug, Drop)]
 pub struct CommitFrame<'a> {
     pub event: CommitEvent,
     pub blocks: &'a [u8],
 }
 
-/// A repository as it is, and the CAR file with its commit.
+/// A repository's current state, and the CAR file with its commit.
 #[derive(Debug, Drop)]
 pub struct SyncFrame<'a> {
     pub event: SyncEvent,
     pub blocks: &'a [u8],
 }
 
-/// What a frame tells.
+/// A decoded frame.
 #[derive(Debug, Drop)]
 pub enum Frame<'a> {
     Commit(CommitFrame<'a>),
@@ -37,13 +37,13 @@ pub enum Frame<'a> {
     Identity(IdentityEvent),
     Account(AccountEvent),
     Info(InfoEvent),
-    /// The host ends the stream.
+    /// An error, with which the host ends the stream.
     Error(ErrorEvent),
-    /// A kind of another name, whose body is any item.
+    /// A kind with another name, whose body is any item.
     Other(String),
 }
 
-/// The value that the body is.
+/// Decodes the whole body as a value of this type.
 fn value_of<'a, T: Deserialize<'a>>(alloc: Global, body: &'a [u8]) -> Result<T, FrameError>
     ensures { MatchResult result (λ v. IsWhole T.shape default_steps body.now (T.meaning v))
         (BodyRefused (HoldsNoValue T.shape default_steps body.now)) }
@@ -57,7 +57,7 @@ fn value_of<'a, T: Deserialize<'a>>(alloc: Global, body: &'a [u8]) -> Result<T, 
     }
 }
 
-/// The commit that the body is.
+/// Decodes the body as a commit.
 fn commit_of(alloc: Global, body: &[u8]) -> Result<CommitFrame<'_>, FrameError>
     ensures { MatchResult result (IsCommitBody body.now)
         (BodyRefused (IsNoBody kinds.Commit body.now)) }
@@ -70,7 +70,7 @@ fn commit_of(alloc: Global, body: &[u8]) -> Result<CommitFrame<'_>, FrameError>
     })
 }
 
-/// The state of a repository that the body is.
+/// Decodes the body as a sync.
 fn sync_of(alloc: Global, body: &[u8]) -> Result<SyncFrame<'_>, FrameError>
     ensures { MatchResult result (IsSyncBody body.now)
         (BodyRefused (IsNoBody kinds.Sync body.now)) }
@@ -83,7 +83,7 @@ fn sync_of(alloc: Global, body: &[u8]) -> Result<SyncFrame<'_>, FrameError>
     })
 }
 
-/// A frame of another kind, if the body is an item.
+/// Returns a frame of another kind, if the body is an item.
 fn other_of(name: String, body: &[u8]) -> Result<Frame<'_>, FrameError>
     ensures { MatchResult result (IsBody (kinds.Other name) body.now)
         (BodyRefused (IsNoBody (kinds.Other name) body.now)) }
@@ -94,7 +94,7 @@ fn other_of(name: String, body: &[u8]) -> Result<Frame<'_>, FrameError>
     }
 }
 
-/// The frame of this kind that the body is.
+/// Decodes the body as a frame of this kind.
 pub(crate) fn read_body(alloc: Global, kind: Kind, body: &[u8]) -> Result<Frame<'_>, FrameError>
     ensures { MatchResult result (IsBody kind body.now) (BodyRefused (IsNoBody kind body.now)) }
 {

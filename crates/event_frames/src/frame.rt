@@ -1,4 +1,4 @@
-//! Frames of com.atproto.sync.subscribeRepos, one after the other.
+//! Frames of com.atproto.sync.subscribeRepos, in sequence.
 
 ghost use Rattle.std.specs.Prelude.{◌≡◌, ◌++◌, IfErr, IfOk, MatchOption, MatchResult, ℕ, List};
 ghost use Rattle.dagcbor_items.specs.Skips.{EndByHeads};
@@ -14,7 +14,7 @@ use dagcbor_read::from_slice;
 use event_types::FrameHeader;
 use std::alloc::Global;
 
-/// Where the two items of a frame stand, and the bytes after it.
+/// The two items of a frame, and the bytes after it.
 #[derive(Clone, Copy, Debug, Drop)]
 pub struct FrameParts<'a> {
     pub header: &'a [u8],
@@ -22,7 +22,7 @@ pub struct FrameParts<'a> {
     pub rest: &'a [u8],
 }
 
-/// The item at the front by its heads, and the bytes after it.
+/// Splits the first item off by its heads, or returns `None` if no item is first.
 fn split_item(bytes: &[u8]) -> Option<(&[u8], &[u8])>
     ensures { MatchOption result (HasNoItem bytes.now)
         (λ p. EndByHeads bytes.now 1 p.1.now × (bytes.now ≡ p.0.now ++ p.1.now)) }
@@ -31,7 +31,8 @@ fn split_item(bytes: &[u8]) -> Option<(&[u8], &[u8])>
     Some((&bytes[..bytes.len() - rest.len()], rest))
 }
 
-/// The two items at the front by their heads. Neither is judged.
+/// Splits the first two items off by their heads, without validating them. Returns `None` if the
+/// bytes do not begin with two items.
 pub fn split_frame(bytes: &[u8]) -> Option<FrameParts<'_>>
     ensures { MatchOption result (HasNoEnd bytes.now)
         (λ p. SplitsFrame bytes.now p.header.now p.body.now p.rest.now) }
@@ -41,7 +42,7 @@ pub fn split_frame(bytes: &[u8]) -> Option<FrameParts<'_>>
     Some(FrameParts { header, body, rest })
 }
 
-/// The kind that the header says.
+/// Decodes the header, and returns the kind that it names.
 fn read_kind(alloc: Global, header: &[u8]) -> Result<Kind, FrameError>
     ensures { MatchResult result (IsHeader header.now) (HeaderRefused header.now) }
 {
@@ -54,7 +55,7 @@ fn read_kind(alloc: Global, header: &[u8]) -> Result<Kind, FrameError>
     }
 }
 
-/// The frame that the two items are. Its CAR file is lent.
+/// Decodes a frame from its two items. Its CAR file is borrowed.
 pub fn read_parts<'a>(alloc: Global, parts: &FrameParts<'a>) -> Result<Frame<'a>, FrameError>
     ensures { MatchResult result (IsFrameOf parts.now.header.now parts.now.body.now)
         (PartsRefused parts.now.header.now parts.now.body.now) }
@@ -63,7 +64,8 @@ pub fn read_parts<'a>(alloc: Global, parts: &FrameParts<'a>) -> Result<Frame<'a>
     read_body(alloc, kind, parts.body)
 }
 
-/// The frame at the front, and the bytes after it. The frame's CAR file is lent.
+/// Decodes the first frame, and returns it with the bytes after it. The frame's CAR file is
+/// borrowed.
 pub fn read_frame(alloc: Global, bytes: &[u8]) -> Result<(Frame<'_>, &[u8]), FrameError>
     ensures read { IfOk result (λ p. IsFrame bytes.now p.0 p.1.now) }
     ensures refused { IfErr result (FrameRefused bytes.now) }

@@ -6,7 +6,7 @@ ghost use Rattle.event_frames.specs.Kinds.{IsKind, NoKindFor};
 use crate::error::FrameError;
 use event_types::FrameHeader;
 
-/// What kind of frame a header says.
+/// The kind of frame that a header names.
 #[derive(Debug, Drop)]
 pub enum Kind {
     Commit,
@@ -14,13 +14,13 @@ pub enum Kind {
     Identity,
     Account,
     Info,
-    /// The host ends the stream.
+    /// An error, with which the host ends the stream.
     Error,
-    /// A kind of another name.
+    /// A kind with another name.
     Other(String),
 }
 
-/// The kind of this name.
+/// Returns the kind of this name.
 fn kind_named(name: String) -> Kind
     ensures { IsKind (pos 1) (Some (string_bytes name)) result }
 {
@@ -34,7 +34,7 @@ fn kind_named(name: String) -> Kind
     }
 }
 
-/// The kind that the header says.
+/// Returns the kind that the header names.
 pub(crate) fn kind_of(header: FrameHeader) -> Result<Kind, FrameError>
     ensures { MatchResult result (IsKind header.op (option_map string_bytes header.t))
         (NoKindFor header.op (option_map string_bytes header.t)) }

@@ -1,4 +1,4 @@
--- What is said of a frame.
+-- The output for one frame.
 use Rattle.std.proofs.Common.{◌≡◌, inl, inr, ℕ, List, refl, sym, subst, Bool, Option, Some, option_map, codes, string_bytes, String, Result, Ok, Err, IfOk}
 use Rattle.std.specs.Global.{Global}
 use Rattle.event_types.specs.declared.events.ErrorEvent.{ErrorEvent}
@@ -14,7 +14,7 @@ use Rattle.event_lines.specs.Causes.{IsOfEvent, refused_line}
 use Rattle.event_lines.specs.Seen.{Seen, see, root_given}
 use Rattle.event_lines.specs.Frames.{IsSaidAlone, IsToldAt, IsCommitSaid, IsReadSaid}
 
--- what holds of an answer holds of it in other words
+-- what holds for an answer holds for it in other words
 pub if_ok : {A E : Type 0} {P Q : A → Type 0} (r : Result A E) → IfOk r P → ((a : A) → P a → Q a) → IfOk r Q
 if_ok (Ok a) h f = f a h
 if_ok (Err e) h f = tt

@@ -28,8 +28,8 @@ frame_length b header body rest h = omega (arith, ap length h.is, length-append 
 
 -- ---- the frames so far
 
--- so many frames are read, and these bytes are left at this place; what is said of them completes what is
--- said of all
+-- After `read` frames these bytes are left, at this place. The output for them completes the output
+-- for all.
 pub record SoFar (b : List ℕ) (read place : ℕ) (seen : Seen) (rest : List ℕ) (well : Bool) (out told : List ℕ) : Type 0 where
   pub counted : read + length rest ≤ length b
   pub placed : place + length rest ≡ length b

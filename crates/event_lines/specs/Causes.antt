@@ -1,4 +1,5 @@
--- The lines that tell why a frame is not read, or its commit not verified. Want of memory is not told so.
+-- The lines that say why a frame is not read, or its commit not verified. Out of memory has no
+-- line.
 use Rattle.std.specs.Prelude.{ℕ, List, [], ◌++◌, codes, ⊤}
 use Rattle.ipld_tree.specs.Cid.{CidParts}
 use Rattle.block_lines.specs.Lines.{line, missing_line}
@@ -11,7 +12,7 @@ use Rattle.event_frames.specs.declared.error.FrameError.TheVariants as unread
 use Rattle.verified_events.specs.declared.refusal.EventError.{EventError}
 use Rattle.verified_events.specs.declared.refusal.EventError.TheVariants as error
 
--- memory was not wanted
+-- the cause is not out of memory
 abbrev pub IsOfFrame : FrameError → Type 0
 IsOfFrame unread.OutOfMemory = ⊥
 IsOfFrame _ = ⊤
@@ -20,7 +21,7 @@ abbrev pub IsOfEvent : EventError → Type 0
 IsOfEvent error.OutOfMemory = ⊥
 IsOfEvent _ = ⊤
 
--- of a frame
+-- why a frame is not read
 abbrev pub unread_line : FrameError → List ℕ
 unread_line unread.OutOfMemory = []
 unread_line unread.NoEnd = line (codes "the bytes are not two items")
@@ -29,7 +30,7 @@ unread_line (unread.OtherOperation n) = line (codes "the operation of the header
 unread_line unread.NoKind = line (codes "the header tells no kind")
 unread_line (unread.NoBody e) = line (codes "the body is not read: " ++ cause_text e)
 
--- of operations, which are not undone
+-- why operations are not undone
 abbrev pub undo_line : UndoError → List ℕ
 undo_line undo.OutOfMemory = []
 undo_line (undo.MissingNode name) = missing_line name
@@ -39,7 +40,7 @@ undo_line undo.OtherTree = line (codes "the nodes are not those of a tree")
 undo_line undo.KeyLength = line (codes "a key has no byte, or more than 1024")
 undo_line undo.OtherState = line (codes "the tree has not what an operation leads to")
 
--- of a commit, if the cause has no cause of its own
+-- why a commit is not verified, for causes that have no cause of their own
 abbrev pub refused_words : EventError → List ℕ
 refused_words error.TooBig = codes "the event does not tell all: tooBig"
 refused_words error.Rebase = codes "the event tells of a rebase"
@@ -55,7 +56,7 @@ refused_words error.OtherRevision = codes "the commit is of another revision"
 refused_words error.LeadsElsewhere = codes "the operations lead from another root"
 refused_words _ = []
 
--- of a commit of this name
+-- why the commit of this name is not verified
 abbrev pub refused_line : CidParts → EventError → List ℕ
 refused_line commit error.OutOfMemory = []
 refused_line commit (error.NoCar e) = line (codes "the blocks are no CAR file of version 1: " ++ fault_name e)

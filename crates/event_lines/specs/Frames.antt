@@ -1,4 +1,4 @@
--- What is said of a frame.
+-- The output for one frame.
 use Rattle.std.specs.Prelude.{◌≡◌, ◌⊎◌, ℕ, List, [], ◌++◌, codes, decimal, string_bytes, Bool, true, Option, None, Some, option_map}
 use Rattle.record_lines.specs.Records.{IsToldAlone}
 use Rattle.event_frames.specs.Frames.{IsFrameOf, PartsRefused}
@@ -14,20 +14,20 @@ use Rattle.event_lines.specs.Lines.{word_line, commit_lines, sync_line, identity
 use Rattle.event_lines.specs.Causes.{IsOfFrame, IsOfEvent, unread_line, refused_line}
 use Rattle.event_lines.specs.Seen.{Seen, see, root_given}
 
--- the frame of this number, whose first byte stands at this place
+-- the number of a frame, and the offset of its first byte
 abbrev pub place_text : (number place : ℕ) → List ℕ
 place_text number place = codes "frame " ++ (decimal number ++ (codes " at byte " ++ (decimal place ++ codes ": ")))
 
--- these lines are said, and nothing is told
+-- these lines are output, without an error message
 abbrev pub IsSaidAlone : List ℕ → Bool → List ℕ → List ℕ → Type 0
 IsSaidAlone lines well out told = (well ≡ true) × (out ≡ lines) × (told ≡ [])
 
--- nothing is said, and the line is told of the frame at this place
+-- the line is the error message for the frame at this place, without output
 abbrev pub IsToldAt : (number place : ℕ) → List ℕ → Bool → List ℕ → List ℕ → Type 0
 IsToldAt number place line well out told = IsToldAlone (place_text number place ++ line) well out told
 
--- of a commit: its lines, if it is verified against what is known of its repository, of which its root and
--- its revision are known from then on; or why it is not
+-- For a commit: its lines, if it is verified against what is known of its repository, whose root
+-- and revision are known from then on; or why it is refused.
 abbrev pub IsCommitSaid : (number place : ℕ) → Seen → CommitFrame → Seen → Bool → List ℕ → List ℕ → Type 0
 IsCommitSaid number place seen f next well out told =
     (known : Option Known) × (option_map root_given known ≡ seen (string_bytes f.event.repo))
@@ -37,8 +37,8 @@ IsCommitSaid number place seen f next well out told =
     ⊎ ((e : EventError) × EventRefused f known e × IsOfEvent e × (next ≡ seen)
     × IsToldAt number place (refused_line f.event.commit e) well out told))
 
--- Of a frame that is read. After a sync nothing is known of its repository, whose commit is another whatever
--- came before. An error, and a kind of another name, are told.
+-- For a frame that is read. After a sync nothing is known of its repository, whose commit is a new
+-- one whatever came before. An error, and a frame of another kind, are error messages.
 abbrev pub IsReadSaid : (number place : ℕ) → Seen → Frame → Seen → Bool → List ℕ → List ℕ → Type 0
 IsReadSaid number place seen (frame.Commit f) next well out told = IsCommitSaid number place seen f next well out told
 IsReadSaid number place seen (frame.Sync f) next well out told =
@@ -54,7 +54,7 @@ IsReadSaid number place seen (frame.Error e) next well out told =
 IsReadSaid number place seen (frame.Other name) next well out told =
     (next ≡ seen) × IsToldAt number place (word_line (codes "a kind that is not known:") (string_bytes name)) well out told
 
--- of two items: what is said of the frame that they are; or why they are none
+-- for two items: the output for the frame that they are; or why they are not one
 abbrev pub IsFrameSaid : (number place : ℕ) → Seen → (header body : List ℕ) → Seen → Bool → List ℕ → List ℕ → Type 0
 IsFrameSaid number place seen header body next well out told =
     ((it : Frame) × IsFrameOf header body it × IsReadSaid number place seen it next well out told)

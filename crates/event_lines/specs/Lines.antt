@@ -1,4 +1,4 @@
--- The lines of frames.
+-- The output lines of frames.
 use Rattle.std.specs.Prelude.{ℕ, List, [], ◌∷◌, ◌++◌, codes, map, flat_map, string_bytes, Bool, Option, None, Some, option_map, if◌then◌else◌}
 use Rattle.ipld_tree.specs.Cid.{CidParts}
 use Rattle.atproto_mst.specs.Changes.{Changed}
@@ -12,34 +12,34 @@ use Rattle.record_lines.specs.Keys.{key_text}
 use Rattle.record_lines.specs.Differing.{name_word}
 use Rattle.verified_events.specs.Operations.{change_of_op}
 
--- a text as one more word of a line, as keys are written
+-- a space and a text, escaped as keys are
 abbrev pub text_word : List ℕ → List ℕ
 text_word text = 32 ∷ key_text text
 
--- a word, and a text
+-- the line of a word and a text
 abbrev pub word_line : List ℕ → List ℕ → List ℕ
 word_line word text = line (word ++ text_word text)
 
--- a word, and two texts
+-- the line of a word and two texts
 abbrev pub two_words_line : List ℕ → List ℕ → List ℕ → List ℕ
 two_words_line word first second = line (word ++ (text_word first ++ text_word second))
 
 -- ---- a commit
 
--- what is done with a record, by the records before and after
+-- the word for an operation, by the records before and after
 abbrev pub operation_word : Option CidParts → Option CidParts → List ℕ
 operation_word None new = codes "created "
 operation_word (Some old) None = codes "deleted "
 operation_word (Some old) (Some new) = codes "updated "
 
--- what is done, the key, and the names of the record before and after
+-- the line of an operation: its word, the key, and the CIDs of the record before and after
 abbrev pub operation_line : Changed → List ℕ
 operation_line c = line (operation_word c.1.0 c.1.1 ++ (key_text c.0 ++ (name_word c.1.0 ++ name_word c.1.1)))
 
 abbrev pub commit_line : CommitEvent → List ℕ
 commit_line e = two_words_line (codes "commit") (string_bytes e.repo) (string_bytes e.rev)
 
--- the repository and the revision, and then a line for each operation
+-- the line of a commit, with its repository and revision, and then a line for each operation
 abbrev pub commit_lines : CommitEvent → List ℕ
 commit_lines e = commit_line e ++ flat_map operation_line (map change_of_op e.ops.items)
 
@@ -57,7 +57,7 @@ info_line e = word_line (codes "info") (string_bytes e.name)
 abbrev pub activity_word : Bool → List ℕ
 activity_word active = if active then codes " active" else codes " inactive"
 
--- why not, if that is told
+-- the status of an account, if there is one
 abbrev pub status_word : Option (List ℕ) → List ℕ
 status_word None = []
 status_word (Some status) = text_word status

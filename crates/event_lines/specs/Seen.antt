@@ -1,4 +1,4 @@
--- What is known of repositories by the frames before.
+-- What earlier frames tell about repositories.
 use Rattle.std.specs.Prelude.{ℕ, List, cond, Option, None, option_map, string_bytes, String}
 use Rattle.std.specs.Global.{Global}
 use Rattle.std.specs.BTreeMap.{BTreeMap, get_by_text}
@@ -11,24 +11,24 @@ use Rattle.event_lines.specs.declared.seen.Last.{Last}
 abbrev pub Root : Type 0
 Root = CidParts × List ℕ
 
--- of each repository, by its DID, what is known
+-- what is known of each repository, by its DID
 abbrev pub Seen : Type 0
 Seen = List ℕ → Option Root
 
 abbrev pub nothing_seen : Seen
 nothing_seen did = None
 
--- this is known of the repository, and of each other what was known
+-- this is known of the repository; for all others nothing changes
 abbrev pub see : Seen → List ℕ → Option Root → Seen
 see seen did it other = cond (bytes_eq did other) it (seen other)
 
--- what `verify_event` is given
+-- the root and revision that `verify_event` is given
 abbrev pub root_given : Known → Root
 root_given known = (known.root, known.rev.now)
 
 abbrev pub root_kept : Last → Root
 root_kept last = (last.root, string_bytes last.rev)
 
--- what is known by a map
+-- what a map says is known
 abbrev pub seen_in : BTreeMap (String Global) Last → Seen
 seen_in map did = option_map root_kept (get_by_text map did)

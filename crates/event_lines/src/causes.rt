@@ -1,4 +1,4 @@
-//! Why a frame is not read, or its commit not verified, in a line.
+//! Lines that say why a frame is not read, or its commit not verified.
 
 ghost use Rattle.std.specs.Prelude.{◌≡◌, IfOk};
 ghost use Rattle.event_lines.specs.Causes.{IsOfFrame, IsOfEvent, unread_line, undo_line};
@@ -12,7 +12,7 @@ use record_lines::{cause_text, name_fault_line, repo_line};
 use std::alloc::{AllocError, Global};
 use verified_events::EventError;
 
-/// Why a frame is not read. Want of memory is none of the causes.
+/// Returns the line that says why a frame is not read. Out of memory has no line.
 pub(crate) fn unread_line(alloc: Global, error: &FrameError) -> Result<Vec<u8>, AllocError>
     ensures { IfOk result (λ v. IsOfFrame error.now × (v.items ≡ unread_line error.now)) }
 {
@@ -35,7 +35,7 @@ pub(crate) fn unread_line(alloc: Global, error: &FrameError) -> Result<Vec<u8>, 
     }
 }
 
-/// Why operations are not undone. Want of memory is none of the causes.
+/// Returns the line that says why operations are not undone. Out of memory has no line.
 fn undo_line(alloc: Global, error: &UndoError) -> Result<Vec<u8>, AllocError>
     ensures { IfOk result (λ v. v.items ≡ undo_line error.now) }
 {
@@ -53,7 +53,7 @@ fn undo_line(alloc: Global, error: &UndoError) -> Result<Vec<u8>, AllocError>
     }
 }
 
-/// Why a commit is not verified, if the cause has no cause of its own.
+/// Returns the words for a cause that has no cause of its own.
 fn refused_words(error: &EventError) -> &'static [u8]
     ensures { result.now ≡ refused_words error.now }
 {
@@ -74,7 +74,7 @@ fn refused_words(error: &EventError) -> &'static [u8]
     }
 }
 
-/// Why the commit of this name is not verified. Want of memory is none of the causes.
+/// Returns the line that says why this commit is not verified. Out of memory has no line.
 pub(crate) fn refused_line(
     alloc: Global,
     commit: &Cid,

@@ -1,4 +1,4 @@
-//! `event`: what frames tell, one after the other.
+//! `event`: a line for each frame of a stream, in order.
 
 ghost use Rattle.std.specs.Prelude.{◌≡◌, ◌≢◌, IfSome, Result, Bool, Option, List, ℕ};
 ghost use Rattle.block_lines.specs.Lines.{SaysBoth};
@@ -13,7 +13,7 @@ use dagcbor_cli::ToolError;
 use std::alloc::Global;
 use std::io::{BufRead, Write};
 
-/// What is said of all the frames of an input.
+/// Answers an input of frames.
 #[derive(Clone, Copy)]
 struct Telling;
 
@@ -25,8 +25,8 @@ impl Answering for Telling {
     }
 }
 
-/// Says what the frames tell that the input is, one after the other, and answers the exit status. The
-/// input is read whole, and all that is said of it is in memory before any of it goes out.
+/// Writes what the frames of the input say, in order, and returns the exit status. The input is
+/// read whole, and the output is complete in memory before any of it is written.
 pub fn run_events<R: BufRead, W: Write, V: Write>(
     alloc: Global,
     input: &mut R,

@@ -1,4 +1,4 @@
-//! What is said of a frame.
+//! The output for one frame.
 
 ghost use Rattle.std.specs.Prelude.{◌≡◌, Option, None, Some, string_bytes, IfOk};
 ghost use Rattle.verified_events.specs.Verifying.{IsVerifiedEvent};
@@ -18,21 +18,21 @@ use std::alloc::{AllocError, Global};
 use std::collections::BTreeMap;
 use verified_events::{Verified, verify_event};
 
-/// Where a frame stands: its number, and the place of its first byte.
+/// The number of a frame, and the offset of its first byte.
 #[derive(Clone, Copy)]
 pub struct Place {
     pub number: usize,
     pub byte: usize,
 }
 
-/// These lines, and nothing that is told.
+/// Returns these lines as output, without an error message.
 fn said_alone(alloc: Global, lines: Vec<u8>) -> Answer
     ensures { IsSaidAlone lines.items result.0.1 result.0.0.items result.1.items }
 {
     ((lines, true), Vec::new(alloc))
 }
 
-/// Nothing that is said, and this line, which is told of the frame at this place.
+/// Returns this line as the error message for the frame at this place, without output.
 pub(crate) fn told_at(alloc: Global, at: Place, line: &[u8]) -> Result<Answer, AllocError>
     ensures { IfOk result
         (λ p. IsToldAt at.number at.byte line.now p.0.1 p.0.0.items p.1.items) }
@@ -44,7 +44,7 @@ pub(crate) fn told_at(alloc: Global, at: Place, line: &[u8]) -> Result<Answer, A
     Ok(told_alone(alloc, told))
 }
 
-/// What is said of a commit that is verified.
+/// Returns the output for a verified commit.
 fn verified_said(
     alloc: Global,
     frame: &CommitFrame<'_>,
@@ -62,7 +62,7 @@ fn verified_said(
     Ok(said_alone(alloc, lines))
 }
 
-/// What is said of a commit.
+/// Returns the answer for a commit: its lines, or why it is not verified.
 fn commit_said(
     alloc: Global,
     at: Place,
@@ -82,7 +82,7 @@ fn commit_said(
     }
 }
 
-/// What is said of a sync.
+/// Returns the output for a sync, and forgets what was known of its repository.
 fn sync_said(
     alloc: Global,
     frame: &SyncFrame<'_>,
@@ -102,7 +102,7 @@ fn sync_said(
     Ok(said_alone(alloc, line))
 }
 
-/// What is said of a frame that is read.
+/// Returns the answer for a frame that is read.
 fn read_said(
     alloc: Global,
     at: Place,
@@ -138,7 +138,7 @@ fn read_said(
     }
 }
 
-/// What is said of the frame that the two items are, or that they are none.
+/// Returns the answer for the frame of these two items, or why they are not a frame.
 pub(crate) fn frame_said(
     alloc: Global,
     at: Place,

@@ -1,4 +1,4 @@
-//! The lines that `dagcar event` writes of frames of a repository host's stream (AT Protocol).
+//! The lines that `dagcar event` writes about frames of a repository host's stream (AT Protocol).
 #![tactic(auto)]
 
 mod causes;

@@ -1,4 +1,4 @@
-//! The lines of what frames tell.
+//! The output lines of frames.
 
 ghost use Rattle.std.specs.Prelude.{◌≡◌, ◌++◌, codes, option_map, string_bytes, IfOk, OnOk};
 ghost use Rattle.std.specs.List.{flat_map};
@@ -13,7 +13,7 @@ use record_lines::{push_key, push_name};
 use std::alloc::{AllocError, Global};
 use verified_events::Change;
 
-/// Appends a text as one more word of a line.
+/// Appends a space and the text, as one more word of a line.
 fn push_word(text: &str, out: &mut Vec<u8>) -> Result<(), AllocError>
     ensures { OnOk result (out.new.items ≡ out.old.items ++ text_word text.now) }
 {
@@ -21,7 +21,7 @@ fn push_word(text: &str, out: &mut Vec<u8>) -> Result<(), AllocError>
     push_key(text.as_bytes(), out)
 }
 
-/// The line of a word and a text.
+/// Returns the line of a word and a text.
 pub(crate) fn word_line(alloc: Global, word: &[u8], text: &str) -> Result<Vec<u8>, AllocError>
     ensures { IfOk result (λ v. v.items ≡ word_line word.now text.now) }
 {
@@ -31,7 +31,7 @@ pub(crate) fn word_line(alloc: Global, word: &[u8], text: &str) -> Result<Vec<u8
     Ok(out)
 }
 
-/// The line of a word and two texts.
+/// Returns the line of a word and two texts.
 pub(crate) fn two_words_line(
     alloc: Global,
     word: &[u8],
@@ -47,7 +47,7 @@ pub(crate) fn two_words_line(
     Ok(out)
 }
 
-/// What is done with a record.
+/// Returns the word for what was done to the record.
 fn operation_word(change: &Change) -> &'static [u8]
     ensures { result.now ≡ operation_word change.now.old change.now.new }
 {
@@ -71,7 +71,7 @@ fn push_operation(change: &Change, out: &mut Vec<u8>) -> Result<(), AllocError>
     out.extend_from_slice(b"\n")
 }
 
-/// The line of a commit, and a line for each of the changes.
+/// Returns the line of a commit, and a line for each of its changes.
 pub(crate) fn commit_lines(
     alloc: Global,
     event: &CommitEvent,
@@ -87,14 +87,14 @@ pub(crate) fn commit_lines(
     Ok(lines)
 }
 
-/// Whether an account is active.
+/// Returns the word for whether an account is active.
 fn activity_word(active: bool) -> &'static [u8]
     ensures { result.now ≡ activity_word active }
 {
     if active { b" active" } else { b" inactive" }
 }
 
-/// Appends why an account is not active, if that is told.
+/// Appends the status of an account, if there is one.
 fn push_status(status: &Option<String>, out: &mut Vec<u8>) -> Result<(), AllocError>
     ensures { OnOk result (out.new.items
         ≡ out.old.items ++ status_word (option_map string_bytes status.now)) }
@@ -105,7 +105,7 @@ fn push_status(status: &Option<String>, out: &mut Vec<u8>) -> Result<(), AllocEr
     }
 }
 
-/// The line of an account.
+/// Returns the line of an account.
 pub(crate) fn account_line(alloc: Global, event: &AccountEvent) -> Result<Vec<u8>, AllocError>
     ensures { IfOk result (λ v. v.items ≡ account_line event.now) }
 {

@@ -1,4 +1,4 @@
-//! What is known of repositories by the frames before.
+//! What earlier frames tell about repositories.
 
 ghost use Rattle.std.specs.Prelude.{◌≡◌, None, Some, option_map, string_bytes, OnOk};
 ghost use Rattle.event_lines.specs.Seen.{see, seen_in, root_given};
@@ -9,14 +9,14 @@ use std::alloc::AllocError;
 use std::collections::BTreeMap;
 use verified_events::Known;
 
-/// The root and the revision after the last commit of a repository that was verified.
+/// The root and the revision of a repository's last verified commit.
 #[derive(Debug, Drop)]
 pub struct Last {
     pub root: Cid,
     pub rev: String,
 }
 
-/// What is known of the repository.
+/// Returns what is known of the repository.
 pub(crate) fn known_of<'a>(seen: &'a BTreeMap<String, Last>, did: &str) -> Option<Known<'a>>
     ensures { option_map root_given result ≡ seen_in seen.now did.now }
 {
@@ -29,7 +29,7 @@ pub(crate) fn known_of<'a>(seen: &'a BTreeMap<String, Last>, did: &str) -> Optio
     }
 }
 
-/// Keeps the root and the revision of a commit.
+/// Remembers the root and the revision of a commit.
 pub(crate) fn keep(seen: &mut BTreeMap<String, Last>, commit: Commit) -> Result<(), AllocError>
     ensures { OnOk result (seen_in seen.new ≡ see (seen_in seen.old) (string_bytes commit.did)
         (Some (commit.data, string_bytes commit.rev))) }

@@ -1,4 +1,4 @@
-//! What is said of frames, one after the other.
+//! The output for a stream of frames.
 
 ghost use Rattle.std.specs.Prelude.{IfOk};
 ghost use Rattle.event_frames.specs.declared.error.FrameError.TheVariants.{NoEnd};
@@ -15,7 +15,7 @@ use record_lines::append_answer;
 use std::alloc::{AllocError, Global};
 use std::collections::BTreeMap;
 
-/// What is said of bytes of which no frame stands first.
+/// Returns the answer for bytes that do not begin with a frame.
 fn end_said(alloc: Global, at: Place) -> Result<Answer, AllocError>
     ensures { IfOk result (λ p. IsToldAt at.number at.byte (unread_line NoEnd)
         p.0.1 p.0.0.items p.1.items) }
@@ -24,9 +24,9 @@ fn end_said(alloc: Global, at: Place) -> Result<Answer, AllocError>
     told_at(alloc, at, &line)
 }
 
-/// What is said of the frames that the bytes are, one after the other. A commit is verified from its own
-/// frame, and against the last one of its repository before it. After a frame that is refused the next is
-/// read, if it is known where that begins.
+/// Returns the answer for all frames of the bytes, in order. A commit is verified from its own
+/// frame, and against the last commit of its repository. After a refused frame the next one is
+/// read, if its beginning is known.
 pub fn events_said(alloc: Global, bytes: &[u8]) -> Result<Answer, AllocError>
     ensures { IfOk result (λ p. AreEventsSaid bytes.now p.0.1 p.0.0.items p.1.items) }
 {

@@ -1,15 +1,15 @@
-//! The words of `event`.
+//! The arguments of `event`.
 
 ghost use Rattle.std.specs.Prelude.{◌≡◌, ◌≢◌, codes, map, string_bytes, option_map, MatchOption, Option, List, ℕ};
 ghost use Rattle.event_lines.specs.Words.{IsEvent};
 
-/// The frames of which file are asked for: those of standard input, if none is named.
+/// The file whose frames are asked for, `None` for standard input.
 #[derive(Clone, Copy)]
 pub struct EventWords<'a> {
     pub file: Option<&'a str>,
 }
 
-/// The words if the first is `event`, and then this file, if one is named.
+/// Returns the arguments if the first is `event`, with this file.
 fn behind<'a>(word: &str, file: Option<&'a str>) -> Option<EventWords<'a>>
     ensures { MatchOption result (word.now ≢ codes "event")
         (λ p. (word.now ≡ codes "event") × (p.file ≡ file.entry)) }
@@ -20,7 +20,8 @@ fn behind<'a>(word: &str, file: Option<&'a str>) -> Option<EventWords<'a>>
     Some(EventWords { file })
 }
 
-/// What the words `event [FILE]` ask. They are no command: `laws::event_is_no_command`.
+/// Parses the arguments `event [FILE]`. They are not a command of `dagcar_lines`: see
+/// `laws::event_is_no_command`.
 pub fn event_of(args: &[String]) -> Option<EventWords<'_>>
     ensures { MatchOption result
         ((file : Option (List ℕ)) → ¬ IsEvent (map string_bytes args.now) file)

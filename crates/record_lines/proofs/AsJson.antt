@@ -1,4 +1,4 @@
--- Records that are said in DAG-JSON.
+-- Records as DAG-JSON lines.
 use Rattle.std.proofs.Common.{◌≡◌, ◌↔◌, inl, inr, ℕ, ◌<◌, List, [], ◌∷◌, ◌++◌, length, length-append, take, Bool, true, false, ◌&&◌, refl, sym, ap, ap₂, ◌∙◌, subst, arith, append_assoc, append-nil, Option, None, Some}
 use Rattle.std.specs.Prelude.{option_to_list, IsSome}
 use Rattle.std.proofs.Math.Bool.{and-true, and_assoc}
@@ -14,7 +14,7 @@ use Rattle.record_lines.specs.Json.{json_line, keyed, IsRecordSaid, AreRecordsSa
 
 -- ---- one record
 
--- what a line says, which ends with a line feed
+-- the text of a line, without its line feed
 line_front : (text front json : List ℕ) (last : Option ℕ) (size : ℕ) → size ≡ length text → text ≡ front ++ option_to_list last → (IsSome last ↔ (0 < size)) → text ≡ line json → front ≡ json
 line_front text front json None size counted is some e = absurd (cc (some.1 (omega (arith, counted, ap length e, length-append json (10 ∷ [])))))
 line_front text front json (Some x) size counted is some e =
@@ -50,7 +50,7 @@ is_not_shown stored e before well text told texts out more said hides key alone 
 
 -- ---- the records so far
 
--- what is said of those that are left completes what is said of all
+-- the output for the remaining records completes the output for all
 abbrev pub SoFar : Stored → List Entry → List Entry → Bool → List ℕ → List ℕ → Type 0
 SoFar stored all rest well out told = (w : Bool) (o t : List ℕ) → AreRecordsSaid stored rest w o t → AreRecordsSaid stored all (well && w) (out ++ o) (told ++ t)
 

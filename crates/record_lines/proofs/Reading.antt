@@ -20,7 +20,7 @@ match_result (Err e) h f g = g e h
 pub records_rise : (b : List ℕ) (c : Commit) (records : List MstEntry) → IsRepoFile b c records → Rise (entries records)
 records_rise b c records h = h.4.1.valid.rise
 
--- what is read of the blocks of a file is read of the file
+-- what is read from the stored blocks of a file is read from the file
 pub read_held : (b : List ℕ) (roots : List CidParts) (stored : Stored) (r : Result Repo (Vec ℕ Global)) → IsFileHeld b roots stored
     → MatchResult r (λ repo. (root : CidParts) × (others : List CidParts) × (roots ≡ root ∷ others) × IsRepo stored root repo.commit repo.records.items) (λ line. IsUnreadOf stored roots line.items)
     → MatchResult r (λ repo. IsRepoFile b repo.commit repo.records.items) (λ line. IsNoRepoFile b line.items)

@@ -9,7 +9,7 @@ use Rattle.record_lines.proofs.Wording.{plain, not_nothing}
 
 -- ---- a digit
 
--- none below it has this character
+-- no value below it has this digit
 abbrev pub NoneBelow : ℕ → ℕ → Type 0
 NoneBelow value character = (m : ℕ) → m < value → upper_digit m ≢ character
 
@@ -60,7 +60,7 @@ spelled_front b more text x y z v w at next last sign bound is high low = by (is
 
 -- ---- the whole text
 
--- of a key with this text these bytes are read, and the rest is the text of its others
+-- of any key with this text these bytes were read, and the rest is the text of its other bytes
 abbrev pub ReadsKey : List ℕ → List ℕ → ℕ → Type 0
 ReadsKey text found at = (key : List ℕ) → AreBytes key → text ≡ key_text key
     → (more : List ℕ) × AreBytes more × (key ≡ found ++ more) × (drop at text ≡ key_text more)
@@ -97,6 +97,6 @@ reads_end text found at done reads key are is = by (reads key are is)
     by ([], bytes, all, rest) = sym (append-nil found) ∙ sym all
     by (c ∷ cs, bytes, all, rest) = absurd (not_nothing c (key_text cs) (none (drop at text) (omega (arith, length-drop at text, done)) ∙ rest))
 
--- a word that is not the text of what is read of it is the text of none
+-- a word that is not the text of what is read from it is not the text of any key
 pub named_itself : (word read text : List ℕ) → ((key : List ℕ) → AreBytes key → word ≡ key_text key → read ≡ key) → text ≡ key_text read → text ≢ word → IsNamedBy word word
 named_itself word read text reads is other = inr ((λ k are of. other (is ∙ ap key_text (reads k are of) ∙ sym of)), refl)

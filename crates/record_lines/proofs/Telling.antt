@@ -1,4 +1,4 @@
--- What is said of a repository's records.
+-- The output for a repository's records.
 use Rattle.std.proofs.Common.{◌≡◌, inl, inr, ℕ, List, [], ◌∷◌, Bool, sym, refl, ◌∙◌, subst, Result, Ok, Err, IfOk}
 use Rattle.ipld_tree.specs.Cid.{CidParts}
 use Rattle.ipld_links.specs.Blocks.{NamedBlock}
@@ -15,7 +15,7 @@ use Rattle.record_lines.specs.Words.{IsOfRepo, repo_line}
 use Rattle.record_lines.specs.Repositories.{OfFirstRoot, IsUnread}
 use Rattle.record_lines.specs.Records.{IsToldAlone, IsRecordAt}
 
--- what holds of an answer holds of it in other words
+-- what holds for an answer holds for it in other words
 pub if_ok : {A E : Type 0} {P Q : A → Type 0} (r : Result A E) → IfOk r P → ((a : A) → P a → Q a) → IfOk r Q
 if_ok (Ok a) h f = f a h
 if_ok (Err e) h f = tt
@@ -33,7 +33,7 @@ of_none IsSo IsNone roots none h = subst (OfFirstRoot IsSo IsNone) (sym none) h
 
 -- ---- refusals
 
--- want of memory is none of the causes that are told
+-- out of memory is not a cause that has a line
 never_lack : (e : RepoError) → IsOfRepo e → e ≡ OutOfMemory → ⊥
 never_lack e is lack = subst IsOfRepo lack is
 

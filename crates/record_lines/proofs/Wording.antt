@@ -1,4 +1,4 @@
--- The text of a key is one word, and is that of no other.
+-- The text of a key is one word, and different keys have different texts.
 use Rattle.std.proofs.Common.{◌≡◌, ℕ, zero, suc, ◌/◌, ◌%◌, ◌<◌, ◌≤◌, ◌==◌, nat_lt, List, [], ◌∷◌, ◌++◌, Bool, true, false, length, refl, sym, ap, ap₂, ◌∙◌, arith, slice_index, codes, if◌then◌else◌, ltb-true, inl, inr}
 use Rattle.std.specs.Prelude.{⊤}
 use Rattle.std.specs.List.{AllByRecursion}
@@ -47,7 +47,7 @@ joined : (a b : List ℕ) → IsWord a → IsWord b → IsWord (a ++ b)
 joined [] b h k = k
 joined (x ∷ a) b h k = (h.0, joined a b h.1 k)
 
--- a byte that stands for itself
+-- a byte that is not escaped
 pub plain : (b : ℕ) → is_spelled b ≡ false → (0x21 ≤ b) × ((b ≤ 0x7e) × ((b == 0x25) ≡ false))
 plain b e =
     let k = or_parts _ _ e in
@@ -77,7 +77,7 @@ not_nothing c rest e = by (is_spelled c) e
     by true e = cc e
     by false e = cc e
 
--- no byte that stands for itself is the first of one that does not
+-- a byte that is not escaped is not the first byte of an escape
 other_first : (c : ℕ) → is_spelled c ≡ false → 0x25 ≡ c → ⊥
 other_first c e is = let no : (c == 0x25) ≡ false = (plain c e).1.1 in absurd (cc (ap (λ x. x == 0x25) is ∙ no))
 

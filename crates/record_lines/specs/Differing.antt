@@ -1,4 +1,4 @@
--- What is said of two files of repositories.
+-- The output for two files of repositories.
 use Rattle.std.specs.Prelude.{◌≡◌, ◌⊎◌, ℕ, List, [], ◌∷◌, ◌++◌, codes, flat_map, Bool, true, Option, None, Some}
 use Rattle.ipld_tree.specs.Cid.{CidParts}
 use Rattle.cid_text.specs.Texts.{cid_text}
@@ -13,26 +13,26 @@ use Rattle.record_lines.specs.Records.{IsToldAlone}
 
 -- ---- a line
 
--- what became of a key's record
+-- the word for what happened to a record
 abbrev pub change_word : Option CidParts → Option CidParts → List ℕ
 change_word None new = codes "added "
 change_word (Some old) None = codes "removed "
 change_word (Some old) (Some new) = codes "changed "
 
--- a name after a space, if there is one
+-- a space and a CID, if there is one
 abbrev pub name_word : Option CidParts → List ℕ
 name_word None = []
 name_word (Some name) = 32 ∷ cid_text name
 
--- of a key whose records differ: what became of its record, the key, and the names of the record before
+-- the line of a key whose record differs: what happened, the key, and the CIDs of the record before
 -- and after
 abbrev pub change_line : Changed → List ℕ
 change_line c = line (change_word c.1.0 c.1.1 ++ (key_text c.0 ++ (name_word c.1.0 ++ name_word c.1.1)))
 
 -- ---- two files
 
--- what is said of a new file beside these records: a line for each key whose records differ, in the
--- order of keys; or nothing, and the line that tells why it is no repository
+-- for a new file and these records: a line for each key whose records differ, in key order; or only
+-- an error message that says why it is not a repository
 abbrev pub IsChangesTo : List MstEntry → List ℕ → Bool → List ℕ → List ℕ → Type 0
 IsChangesTo before new well out told =
     ((c : Commit) × (after : List MstEntry) × (cs : List Changed) × IsRepoFile new c after
@@ -40,8 +40,8 @@ IsChangesTo before new well out told =
     × (out ≡ flat_map change_line cs) × (told ≡ []))
     ⊎ ((text : List ℕ) × IsNoRepoFile new text × IsToldAlone (codes "new: " ++ text) well out told)
 
--- what `changes` says of two files: that of the new one beside the records of the old one; or
--- nothing, and the line that tells why the old one is no repository
+-- for two files: the output for the new one and the records of the old one; or only an error
+-- message that says why the old one is not a repository
 abbrev pub IsChangesOf : List ℕ → List ℕ → Bool → List ℕ → List ℕ → Type 0
 IsChangesOf old new well out told =
     ((c : Commit) × (before : List MstEntry) × IsRepoFile old c before

@@ -1,10 +1,10 @@
--- What holds of all keys.
+-- What holds for all keys.
 use Rattle.std.specs.Prelude.{◌≡◌, ℕ, ◌≤◌, List}
 use Rattle.std.specs.List.{AllByRecursion}
 use Rattle.cid_text.specs.Alphabets.{AreBytes}
 use Rattle.record_lines.specs.Keys.{key_text, IsNamedBy}
 
--- no byte is among them that could end a word, or a line
+-- the bytes include none that could end a word or a line
 abbrev pub IsWord : List ℕ → Type 0
 IsWord bytes = AllByRecursion (λ b. (0x21 ≤ b) × (b ≤ 0x7e)) bytes
 
@@ -12,7 +12,7 @@ IsWord bytes = AllByRecursion (λ b. (0x21 ≤ b) × (b ≤ 0x7e)) bytes
 abbrev pub KeysAreWords : Type 0
 KeysAreWords = (key : List ℕ) → AreBytes key → IsWord (key_text key)
 
--- and it is the text of no other
+-- different keys have different texts
 abbrev pub KeyTextsDiffer : Type 0
 KeyTextsDiffer = (key other : List ℕ) → AreBytes key → AreBytes other → key_text key ≡ key_text other → key ≡ other
 

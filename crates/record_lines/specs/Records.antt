@@ -1,4 +1,4 @@
--- What is said of a repository's records.
+-- The output for a repository's records.
 use Rattle.std.specs.Prelude.{◌≡◌, ◌⊎◌, ℕ, List, [], ◌∷◌, ◌++◌, Bool, true, false, None, Some, ⊤, flat_map}
 use Rattle.ipld_tree.specs.Cid.{CidParts}
 use Rattle.cid_text.specs.Texts.{cid_text}
@@ -21,18 +21,18 @@ use Rattle.record_lines.specs.Keys.{key_text, IsNamedBy}
 use Rattle.record_lines.specs.Words.{IsOfTree, IsOfRepo, tree_line, repo_line, no_root_line, no_record_line, other_codec_line}
 use Rattle.record_lines.specs.Repositories.{IsFileHeld, OfFirstRoot, IsRepoFile, IsNoRepoFile}
 
--- nothing is said, and this is told
+-- only this error message, and no output
 abbrev pub IsToldAlone : List ℕ → Bool → List ℕ → List ℕ → Type 0
 IsToldAlone text well out told = (well ≡ false) × (out ≡ []) × (told ≡ text)
 
 -- ---- all records
 
--- of a record: its key, and the name of its block as text
+-- the line of a record: its key and its CID
 abbrev pub record_line : Entry → List ℕ
 record_line e = line (key_text e.0 ++ (32 ∷ cid_text e.1))
 
--- what `records` says of a file: a line for each record of the repository; or nothing, and a line
--- that tells why it is none
+-- for a file: a line for each record of the repository; or only a line that says why it is not a
+-- repository
 abbrev pub IsRecords : List ℕ → Bool → List ℕ → List ℕ → Type 0
 IsRecords b well out told = ((c : Commit) × (records : List MstEntry) × IsRepoFile b c records
     × (well ≡ true) × (out ≡ flat_map record_line (entries records)) × (told ≡ []))
@@ -40,25 +40,25 @@ IsRecords b well out told = ((c : Commit) × (records : List MstEntry) × IsRepo
 
 -- ---- one record
 
--- of the bytes that a record's name names: what is shown of them, where it says that they are
--- DAG-CBOR; else which codec it says
+-- for bytes that match a record's CID: their data if its codec is DAG-CBOR; otherwise a message
+-- with the codec
 abbrev pub AreVerifiedSaid : CidParts → List ℕ → Bool → List ℕ → List ℕ → Type 0
 AreVerifiedSaid name b well out told = (IsDagCbor name × IsShown b well out told)
     ⊎ ((¬ IsDagCbor name) × IsToldAlone (other_codec_line name) well out told)
 
--- of the bytes under a record's name: that of those which it names; of others the verdict on them
+-- for bytes under a record's CID: the above if they match it; otherwise the verdict on them
 abbrev pub AreBytesSaid : CidParts → List ℕ → Bool → List ℕ → List ℕ → Type 0
 AreBytesSaid name b well out told = (IsVerified (name, b) × AreVerifiedSaid name b well out told)
     ⊎ ((¬ IsVerified (name, b)) × ((v : Verdict) × IsVerdict (name, b) v
     × IsToldAlone (verdict_line ((name, b), v)) well out told))
 
--- of a record's name: what is said of the bytes under it, or that there are none
+-- for a record's CID: the output for the bytes under it, or that there are none
 abbrev pub IsBlockSaid : Stored → CidParts → Bool → List ℕ → List ℕ → Type 0
 IsBlockSaid stored name well out told =
     ((b : List ℕ) × (stored name ≡ Some b) × AreBytesSaid name b well out told)
     ⊎ ((stored name ≡ None) × IsToldAlone (missing_line name) well out told)
 
--- of the key in the tree of this root: its record; or that there is none; or why that is not told
+-- for the key in the tree of this root: its record; or that it has none; or why it is not known
 abbrev pub IsSaidOfKey : Stored → List ℕ → CidParts → Bool → List ℕ → List ℕ → Type 0
 IsSaidOfKey stored key tree well out told =
     ((name : CidParts) × FindsRecord most_layers stored key tree (Some name) × IsBlockSaid stored name well out told)
@@ -66,21 +66,21 @@ IsSaidOfKey stored key tree well out told =
     ⊎ ((e : MstError) × FindStops most_layers stored key tree e × IsOfTree e
     × IsToldAlone (tree_line e) well out told))
 
--- of the key in the tree of the commit of this name; or why there is no commit
+-- for the key in the tree of the commit of this CID; or why there is no commit
 abbrev pub IsRecordAt : Stored → List ℕ → CidParts → Bool → List ℕ → List ℕ → Type 0
 IsRecordAt stored key root well out told = ((c : Commit) × IsStoredCommit stored root c
     × IsSaidOfKey stored key c.data well out told)
     ⊎ (((c : Commit) → ¬ IsStoredCommit stored root c) × ((e : RepoError) × CommitRefused stored root e
     × IsOfRepo e × IsToldAlone (repo_line root e) well out told))
 
--- of the key in the tree of the commit that the first root names; or that there is no root
+-- for the key in the tree of the commit that is the first root; or that there is no root
 abbrev pub IsRecordOf : List ℕ → Stored → List CidParts → Bool → List ℕ → List ℕ → Type 0
 IsRecordOf key stored roots well out told =
     OfFirstRoot (λ root. IsRecordAt stored key root well out told)
     (IsToldAlone no_root_line well out told) roots
 
--- what `record` says of a file: that of the key which the word names, of the file's roots and its
--- sections; or nothing, and a line that tells why the bytes are no file
+-- for a file: the output for the key that the word names, with the file's roots and sections; or
+-- only a line that says why the bytes are not a CAR file
 abbrev pub IsRecord : List ℕ → List ℕ → Bool → List ℕ → List ℕ → Type 0
 IsRecord word b well out told = ((key : List ℕ) × (roots : List CidParts) × (stored : Stored)
     × IsNamedBy word key × IsFileHeld b roots stored × IsRecordOf key stored roots well out told)

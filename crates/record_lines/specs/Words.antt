@@ -1,4 +1,4 @@
--- The lines that tell why a repository is not read. Want of memory is not told so.
+-- The lines that say why a repository is not read. Out of memory has no line.
 use Rattle.std.specs.Prelude.{ℕ, List, [], ◌++◌, codes, decimal, ⊤}
 use Rattle.ipld_tree.specs.Cid.{CidParts}
 use Rattle.cid_text.specs.Texts.{cid_text}
@@ -13,7 +13,7 @@ use Rattle.atproto_mst.specs.declared.error.MstError.TheVariants as unread
 use Rattle.atproto_mst.specs.declared.repo_error.RepoError.{RepoError}
 use Rattle.atproto_mst.specs.declared.repo_error.RepoError.TheVariants as error
 
--- memory was not wanted
+-- the cause is not out of memory
 abbrev pub IsOfTree : MstError → Type 0
 IsOfTree unread.OutOfMemory = ⊥
 IsOfTree _ = ⊤
@@ -23,11 +23,11 @@ IsOfRepo error.OutOfMemory = ⊥
 IsOfRepo (error.Tree e) = IsOfTree e
 IsOfRepo _ = ⊤
 
--- a name, and what is wrong with it
+-- a CID, and what is wrong with it
 abbrev pub name_fault_line : CidParts → List ℕ → List ℕ
 name_fault_line name words = line (cid_text name ++ words)
 
--- of a tree
+-- why a tree is not read
 abbrev pub tree_line : MstError → List ℕ
 tree_line unread.OutOfMemory = []
 tree_line unread.KeyLength = line (codes "a key has no byte, or more than 1024")
@@ -39,12 +39,12 @@ tree_line (unread.NoNode name) = name_fault_line name (codes " is no node")
 tree_line (unread.TooDeep name) = name_fault_line name (codes " stands below 129 nodes")
 tree_line unread.OtherTree = line (codes "the nodes are not those of the tree of their entries")
 
--- why a block is no commit: the message, such as `missing field`; or else the name of the refusal
+-- why a block is not a commit: the message, such as `missing field`; or the name of the error
 abbrev pub cause_text : {E : Type 0} → DecodeError E → List ℕ
 cause_text (refusals.Msg message) = name_bytes message
 cause_text e = variant_name e
 
--- of a repository whose commit has this name
+-- why the repository of this commit is not read
 abbrev pub repo_line : CidParts → RepoError → List ℕ
 repo_line name error.OutOfMemory = []
 repo_line name error.Missing = missing_line name
@@ -54,14 +54,14 @@ repo_line name (error.OtherVersion n) =
     name_fault_line name (codes " is a commit of version " ++ decimal n)
 repo_line name (error.Tree e) = tree_line e
 
--- of a file without a root
+-- the line for a file without a root
 abbrev pub no_root_line : List ℕ
 no_root_line = line (codes "the file has no commit: it has no root")
 
--- of a tree that has no record of the key
+-- the line for a tree that has no record of the key
 abbrev pub no_record_line : List ℕ
 no_record_line = line (codes "no record has the key")
 
--- of a record whose name says another codec than DAG-CBOR
+-- the line for a record whose CID has another codec than DAG-CBOR
 abbrev pub other_codec_line : CidParts → List ℕ
 other_codec_line name = name_fault_line name (codes " is " ++ (codec_text name.codec ++ codes ", not dag-cbor"))

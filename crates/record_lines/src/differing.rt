@@ -1,4 +1,4 @@
-//! `changes`: what differs between the records of two repositories.
+//! `changes`: the differences between the records of two repositories.
 
 ghost use Rattle.std.specs.Prelude.{◌≡◌, ◌++◌, List, IfOk, IfSome, OnOk};
 ghost use Rattle.std.specs.List.{flat_map};
@@ -21,7 +21,7 @@ use ipld_tree::Cid;
 use std::alloc::{AllocError, Global};
 use std::io::{BufRead, Write};
 
-/// What became of a key's record.
+/// Returns the word for what happened to the record.
 fn change_word(change: &Change) -> &'static [u8]
     ensures { result.now ≡ change_word change.now.old change.now.new }
 {
@@ -34,7 +34,7 @@ fn change_word(change: &Change) -> &'static [u8]
     }
 }
 
-/// Appends a name after a space, if there is one.
+/// Appends a space and the CID, if there is one.
 pub fn push_name(name: &Option<Cid>, out: &mut Vec<u8>) -> Result<(), AllocError>
     ensures { OnOk result (out.new.items ≡ out.old.items ++ name_word name.now) }
 {
@@ -45,7 +45,7 @@ pub fn push_name(name: &Option<Cid>, out: &mut Vec<u8>) -> Result<(), AllocError
     Ok(())
 }
 
-/// Appends the line of a key whose records differ.
+/// Appends the line of a key whose record differs.
 fn push_change(change: &Change, out: &mut Vec<u8>) -> Result<(), AllocError>
     ensures { OnOk result (out.new.items ≡ out.old.items ++ change_line (change_of change.now)) }
 {
@@ -56,7 +56,7 @@ fn push_change(change: &Change, out: &mut Vec<u8>) -> Result<(), AllocError>
     out.extend_from_slice(b"\n")
 }
 
-/// The lines of these changes.
+/// Returns the lines of these changes.
 fn change_lines(alloc: Global, found: &[Change]) -> Result<Vec<u8>, AllocError>
     ensures { IfOk result (λ v. v.items ≡ flat_map change_line (changes found.now)) }
 {
@@ -67,7 +67,7 @@ fn change_lines(alloc: Global, found: &[Change]) -> Result<Vec<u8>, AllocError>
     Ok(lines)
 }
 
-/// What is told of one of the files: which it is, and the line.
+/// Returns the error message about one of the files: which file, and the line.
 fn told_of(alloc: Global, which: &[u8], line: &[u8]) -> Result<Answer, ToolError>
     ensures { IfOk result
         (λ p. IsToldAlone (which.now ++ line.now) p.0.1 p.0.0.items p.1.items) }
@@ -78,7 +78,7 @@ fn told_of(alloc: Global, which: &[u8], line: &[u8]) -> Result<Answer, ToolError
     Ok(told_alone(alloc, told))
 }
 
-/// The lines of what differs between these records.
+/// Returns the lines of the changes between these records, whose keys must rise.
 fn lines_between(alloc: Global, old: &[MstEntry], new: &[MstEntry]) -> Result<Vec<u8>, AllocError>
     ensures { Rise (entries old.now) → Rise (entries new.now) → IfOk result (λ v. (cs : List Changed)
         × AreChanges (entries old.now) (entries new.now) cs × (v.items ≡ flat_map change_line cs)) }
@@ -87,7 +87,7 @@ fn lines_between(alloc: Global, old: &[MstEntry], new: &[MstEntry]) -> Result<Ve
     change_lines(alloc, &found)
 }
 
-/// What is said of the file that the input is beside these records.
+/// Returns the answer for the new file, compared with these records.
 fn changes_to<S: BufRead>(
     alloc: Global,
     before: &[MstEntry],
@@ -106,7 +106,7 @@ fn changes_to<S: BufRead>(
     }
 }
 
-/// What is said of the two files that the inputs are.
+/// Returns the answer for the two files.
 fn changes_between<R: BufRead, S: BufRead>(
     alloc: Global,
     old: &mut R,
@@ -122,11 +122,11 @@ fn changes_between<R: BufRead, S: BufRead>(
     }
 }
 
-/// Writes a line for each key whose records differ between two files, each the whole repository of
-/// its first root, in the order of keys: `added <key> <CID>`, `removed <key> <CID>`, or
-/// `changed <key> <CID before> <CID after>`. Or writes nothing, and tells why one of them is no such
-/// file, after `old: ` or `new: `, the old one first. Whether both are. The blocks of one file are
-/// in memory at a time.
+/// Writes a line for each key whose records differ between two CAR files, each the whole repository
+/// of its first root, in key order: `added <key> <CID>`, `removed <key> <CID>`, or `changed <key>
+/// <CID before> <CID after>`. If one of them is not such a file, writes only an error message that
+/// says why, after `old: ` or `new: `; the old file is checked first. Returns whether both are. The
+/// blocks of one file are in memory at a time.
 pub fn write_changes<R: BufRead, S: BufRead, W: Write, V: Write>(
     alloc: Global,
     old: &mut R,

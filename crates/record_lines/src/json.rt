@@ -1,4 +1,4 @@
-//! `records --json`: the data of each record of a repository as DAG-JSON.
+//! `records --json`: the data of each record of a repository, as DAG-JSON.
 
 ghost use Rattle.std.specs.Prelude.{◌≡◌, ◌++◌, IfOk, IfSome};
 ghost use Rattle.ipld_links.specs.Reaching.{stored_in};
@@ -21,7 +21,7 @@ use std::alloc::{AllocError, Global};
 use std::collections::BTreeMap;
 use std::io::{BufRead, Write};
 
-/// The text of a key.
+/// Returns a key as text.
 fn key_text(alloc: Global, key: &[u8]) -> Result<Vec<u8>, AllocError>
     ensures { IfOk result (λ v. v.items ≡ key_text key.now) }
 {
@@ -30,7 +30,7 @@ fn key_text(alloc: Global, key: &[u8]) -> Result<Vec<u8>, AllocError>
     Ok(text)
 }
 
-/// The line of a record with this data in DAG-JSON.
+/// Returns the line of a record whose data is this DAG-JSON.
 fn json_line(alloc: Global, found: &MstEntry, json: &[u8]) -> Result<Vec<u8>, AllocError>
     ensures { IfOk result (λ v. v.items ≡ json_line (entry_of found.now) json.now) }
 {
@@ -46,7 +46,7 @@ fn json_line(alloc: Global, found: &MstEntry, json: &[u8]) -> Result<Vec<u8>, Al
     Ok(out)
 }
 
-/// What is told of a record, after its key; or nothing.
+/// Prefixes an error message about a record with its key. An empty message stays empty.
 fn keyed(alloc: Global, found: &MstEntry, told: Vec<u8>) -> Result<Vec<u8>, AllocError>
     ensures { IfOk result (λ v. v.items ≡ keyed (entry_of found.now) told.items) }
 {
@@ -60,7 +60,7 @@ fn keyed(alloc: Global, found: &MstEntry, told: Vec<u8>) -> Result<Vec<u8>, Allo
     Ok(out)
 }
 
-/// What is said of a record.
+/// Returns the answer for a record.
 fn record_said(
     alloc: Global,
     blocks: &BTreeMap<Cid, Vec<u8>>,
@@ -79,7 +79,7 @@ fn record_said(
     Ok(((line, true), told))
 }
 
-/// What is said of these records.
+/// Returns the answer for these records.
 fn records_said(
     alloc: Global,
     blocks: &BTreeMap<Cid, Vec<u8>>,
@@ -96,7 +96,7 @@ fn records_said(
     Ok(all)
 }
 
-/// What is said of the records of what is held of a file.
+/// Returns the answer for the repository in the stored blocks.
 fn held_said(alloc: Global, held: &Held) -> Result<Answer, AllocError>
     ensures { IfOk result (λ p. IsHeldSaid (stored_in held.now.blocks) held.now.roots.items
         p.0.1 p.0.0.items p.1.items) }
@@ -107,7 +107,7 @@ fn held_said(alloc: Global, held: &Held) -> Result<Answer, AllocError>
     }
 }
 
-/// What is said of the file that the input is.
+/// Returns the answer for the file.
 fn json_of<R: BufRead>(alloc: Global, input: &mut R) -> Result<Answer, ToolError>
     ensures { IfSome (R.remaining input.old)
         (λ b. IfOk result (λ p. IsRecordsJson b p.0.1 p.0.0.items p.1.items)) }
@@ -122,11 +122,12 @@ fn json_of<R: BufRead>(alloc: Global, input: &mut R) -> Result<Answer, ToolError
     }
 }
 
-/// Writes a line for each record of the repository that the input is, in the order of keys: a map of
-/// `cid`, `key` and `value` in DAG-JSON, the key as `records` prints it. A record that is not there,
-/// or whose bytes are not those of its CID or no DAG-CBOR, has no line; what is wrong with it is told
-/// after its key. Or writes nothing, and tells why the input is not one. Whether the data of each
-/// record is written. The blocks of the input and the lines are in memory.
+/// Writes a line for each record of the repository in the input, in key order: a DAG-JSON map of
+/// `cid`, `key` and `value`, with the key as `records` prints it. A record that is missing, has
+/// bytes that do not match its CID, or is not DAG-CBOR has no line, but an error message after its
+/// key. If the input is not a repository, writes only an error message that says why. Returns
+/// whether the data of every record was written. The blocks of the input and the lines are in
+/// memory.
 pub fn write_records_json<R: BufRead, W: Write, V: Write>(
     alloc: Global,
     input: &mut R,

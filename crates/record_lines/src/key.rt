@@ -1,4 +1,4 @@
-//! Keys as they stand in lines.
+//! Keys as words of lines.
 
 ghost use Rattle.std.specs.Prelude.{◌≡◌, ◌++◌, ◌<◌, ◌≤◌, List, ℕ, length, IfOk, OnOk};
 ghost use Rattle.cid_text.specs.Alphabets.{AreBytes};
@@ -6,7 +6,7 @@ ghost use Rattle.record_lines.specs.Keys.{upper_digit, is_spelled, key_byte, key
 
 use std::alloc::{AllocError, Global};
 
-/// A digit of base 16.
+/// Returns an upper-case hexadecimal digit.
 fn upper_digit(value: u8) -> u8
     requires { value < 16 }
     ensures { result ≡ upper_digit value }
@@ -14,14 +14,14 @@ fn upper_digit(value: u8) -> u8
     b"0123456789ABCDEF"[value as usize]
 }
 
-/// Whether the byte could end a key, or a line, or is `%`.
+/// Returns whether a byte is escaped: outside 0x21 to 0x7e, or `%`.
 fn is_spelled(byte: u8) -> bool
     ensures { result ≡ is_spelled byte }
 {
     byte < 0x21 || 0x7e < byte || byte == b'%'
 }
 
-/// Appends a byte of a key.
+/// Appends a byte of a key, escaped if needed.
 fn push_byte(byte: u8, out: &mut Vec<u8>) -> Result<(), AllocError>
     ensures { OnOk result (out.new.items ≡ out.old.items ++ key_byte byte) }
 {
@@ -32,8 +32,8 @@ fn push_byte(byte: u8, out: &mut Vec<u8>) -> Result<(), AllocError>
     }
 }
 
-/// Appends a key as one word of a line: a byte that is none of 0x21 to 0x7e, or is `%`, as `%` and
-/// two digits.
+/// Appends a key as one word of a line. A byte outside 0x21 to 0x7e, and `%`, becomes `%` and two
+/// hexadecimal digits.
 pub fn push_key(key: &[u8], out: &mut Vec<u8>) -> Result<(), AllocError>
     ensures { OnOk result (out.new.items ≡ out.old.items ++ key_text key.now) }
 {
@@ -43,7 +43,8 @@ pub fn push_key(key: &[u8], out: &mut Vec<u8>) -> Result<(), AllocError>
     Ok(())
 }
 
-/// What the digit of base 16 stands for; of another byte nothing is said.
+/// Returns the value of an upper-case hexadecimal digit. Unspecified for another byte, but below
+/// 16.
 fn digit_value(byte: u8) -> u8
     ensures bound { result < 16 }
     ensures value { (n : ℕ) → n < 16 → byte ≡ upper_digit n → result ≡ n }
@@ -56,7 +57,7 @@ fn digit_value(byte: u8) -> u8
     0
 }
 
-/// The first byte of the key whose text this is, and how many bytes spell it.
+/// Returns the first byte of the key with this text, and how many bytes of text spell it.
 fn front_byte(text: &[u8]) -> (u8, usize)
     requires { 1 ≤ length text.now }
     ensures bound { (1 ≤ result.1) × (result.1 ≤ length text.now) }
@@ -69,7 +70,7 @@ fn front_byte(text: &[u8]) -> (u8, usize)
     (16 * digit_value(text[1]) + digit_value(text[2]), 3)
 }
 
-/// The key whose text this is; of what is the text of none nothing is said.
+/// Returns the key with this text. Unspecified if it is not the text of a key.
 fn key_of_text(alloc: Global, text: &[u8]) -> Result<Vec<u8>, AllocError>
     ensures { (key : List ℕ) → AreBytes key → text.now ≡ key_text key
         → IfOk result (λ v. v.items ≡ key) }
@@ -84,14 +85,15 @@ fn key_of_text(alloc: Global, text: &[u8]) -> Result<Vec<u8>, AllocError>
     Ok(key)
 }
 
-/// Any bytes are below 256: for the proof alone.
+/// Does nothing. Gives the proof that bytes are below 256.
 fn are_bytes(bytes: &[u8])
     ensures { AreBytes bytes.now }
 {
     let _bytes = bytes;
 }
 
-/// The key that a word names: the one whose text it is, or else the word itself.
+/// Returns the key that a word names: the key with this text, or the word itself if it is not the
+/// text of a key.
 pub fn named_key(alloc: Global, word: &[u8]) -> Result<Vec<u8>, AllocError>
     ensures { IfOk result (λ v. IsNamedBy word.now v.items) }
 {

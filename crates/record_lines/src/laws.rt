@@ -1,14 +1,14 @@
-//! Laws of the definitions, each the contract of a function that does nothing.
+//! Laws of the definitions, each stated as the contract of a function that does nothing.
 
 ghost use Rattle.record_lines.specs.Laws.{KeysAreWords, KeyTextsDiffer, KeysAreNamed};
 
-/// The text of a key is one word, so that no key can end its line.
+/// The text of a key is one word, so no key can end its line.
 #[tactic(auto, using(crate::proofs::Wording::keys_are_words))]
 pub fn keys_are_words()
     ensures { KeysAreWords }
 {}
 
-/// The text of a key is that of no other.
+/// Different keys have different texts.
 #[tactic(auto, using(crate::proofs::Wording::keys_differ))]
 pub fn keys_differ()
     ensures { KeyTextsDiffer }

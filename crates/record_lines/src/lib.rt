@@ -1,4 +1,4 @@
-//! The lines that programs write of a repository's records (AT Protocol).
+//! The lines that programs write about a repository's records (AT Protocol).
 #![tactic(auto)]
 
 mod differing;

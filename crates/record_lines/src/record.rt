@@ -1,4 +1,4 @@
-//! `record`: one record of a repository.
+//! `record`: the data of one record of a repository.
 
 ghost use Rattle.std.specs.Prelude.{List, ℕ, IfOk, IfSome};
 ghost use Rattle.ipld_links.specs.Reaching.{stored_in};
@@ -22,7 +22,7 @@ use std::io::{BufRead, Write};
 /// The codec of records (multicodec table).
 const DAG_CBOR: u64 = 0x71;
 
-/// What is told of a record's name, under which there are other bytes than it says.
+/// Returns the error message for a record whose bytes do not match its CID.
 fn verdict_told(alloc: Global, name: &Cid, verdict: &Verdict) -> Result<Answer, AllocError>
     ensures { (bytes : List ℕ) → IfOk result (λ p.
         IsToldAlone (verdict_line ((name.now, bytes), verdict.now)) p.0.1 p.0.0.items p.1.items) }
@@ -31,8 +31,8 @@ fn verdict_told(alloc: Global, name: &Cid, verdict: &Verdict) -> Result<Answer, 
     Ok(told_alone(alloc, line))
 }
 
-/// What is said of the bytes under a record's name: what is shown of them, where they are those that
-/// it says; else the verdict on them.
+/// Returns the answer for the bytes stored under a record's CID: their data if they match the CID,
+/// otherwise the verdict on them.
 fn bytes_said(alloc: Global, name: &Cid, bytes: &[u8]) -> Result<Answer, AllocError>
     ensures { IfOk result
         (λ p. AreBytesSaid name.now bytes.now p.0.1 p.0.0.items p.1.items) }
@@ -45,8 +45,8 @@ fn bytes_said(alloc: Global, name: &Cid, bytes: &[u8]) -> Result<Answer, AllocEr
     }
 }
 
-/// What is said of the bytes that a record's name names: what is shown of them, where it says that
-/// they are DAG-CBOR; else which codec it says.
+/// Returns the answer for bytes that match the record's CID: their data if its codec is DAG-CBOR,
+/// otherwise an error message with the codec.
 fn verified_said(alloc: Global, name: &Cid, bytes: &[u8]) -> Result<Answer, AllocError>
     ensures { IfOk result
         (λ p. AreVerifiedSaid name.now bytes.now p.0.1 p.0.0.items p.1.items) }
@@ -58,7 +58,7 @@ fn verified_said(alloc: Global, name: &Cid, bytes: &[u8]) -> Result<Answer, Allo
     Ok(told_alone(alloc, line))
 }
 
-/// What is said of a record's name.
+/// Returns the answer for a record's CID.
 pub(crate) fn block_said(
     alloc: Global,
     blocks: &BTreeMap<Cid, Vec<u8>>,
@@ -76,7 +76,7 @@ pub(crate) fn block_said(
     }
 }
 
-/// What is said of the key in the tree of this root.
+/// Returns the answer for the key in the tree of this root.
 fn key_said(
     alloc: Global,
     blocks: &BTreeMap<Cid, Vec<u8>>,
@@ -101,7 +101,7 @@ fn key_said(
     }
 }
 
-/// What is said of the key in the tree of the commit of this name.
+/// Returns the answer for the key in the tree of the commit of this CID.
 fn record_at(
     alloc: Global,
     blocks: &BTreeMap<Cid, Vec<u8>>,
@@ -120,7 +120,7 @@ fn record_at(
     }
 }
 
-/// What is said of the key in the tree of the commit that the first root names.
+/// Returns the answer for the key in the tree of the commit that is the first root.
 fn record_of(
     alloc: Global,
     roots: &[Cid],
@@ -136,7 +136,7 @@ fn record_of(
     }
 }
 
-/// What is said of the key that the word names, in the file that the input is.
+/// Returns the answer for the key that the word names, in the input file.
 fn record_in<R: BufRead>(alloc: Global, word: &[u8], input: &mut R) -> Result<Answer, ToolError>
     ensures { IfSome (R.remaining input.old)
         (λ b. IfOk result (λ p. IsRecord word.now b p.0.1 p.0.0.items p.1.items)) }
@@ -152,11 +152,11 @@ fn record_in<R: BufRead>(alloc: Global, word: &[u8], input: &mut R) -> Result<An
     }
 }
 
-/// Writes the data of the record of the key, in the tree of the commit that the file's first root
-/// names, or tells why there is none. Whether there is one. The word is the key as `records` prints
-/// it, with `%20` for a space; a word that is no key's text is the key itself. The commit, the nodes
-/// on the way to the key and the record need be there, and no others. The blocks of the input are in
-/// memory.
+/// Writes the data of the key's record, in the tree of the commit that is the file's first root, or
+/// an error message that says why there is none. Returns whether it was written. The word is the
+/// key as `records` prints it, with `%20` for a space. A word that is not such a text is the key
+/// itself. Only the commit, the nodes on the way to the key and the record must be in the file. The
+/// blocks of the input are in memory.
 pub fn write_record<R: BufRead, W: Write, V: Write>(
     alloc: Global,
     word: &str,

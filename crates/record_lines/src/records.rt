@@ -26,7 +26,7 @@ fn push_record(found: &MstEntry, out: &mut Vec<u8>) -> Result<(), AllocError>
     out.extend_from_slice(b"\n")
 }
 
-/// The lines of these records.
+/// Returns the lines of these records.
 fn record_lines(alloc: Global, records: &[MstEntry]) -> Result<Vec<u8>, AllocError>
     ensures { IfOk result (λ v. v.items ≡ flat_map record_line (entries records.now)) }
 {
@@ -37,7 +37,7 @@ fn record_lines(alloc: Global, records: &[MstEntry]) -> Result<Vec<u8>, AllocErr
     Ok(lines)
 }
 
-/// What is said of the file that the input is.
+/// Returns the answer for the input file.
 fn records_of<R: BufRead>(alloc: Global, input: &mut R) -> Result<Answer, ToolError>
     ensures { IfSome (R.remaining input.old)
         (λ b. IfOk result (λ p. IsRecords b p.0.1 p.0.0.items p.1.items)) }
@@ -52,10 +52,11 @@ fn records_of<R: BufRead>(alloc: Global, input: &mut R) -> Result<Answer, ToolEr
     }
 }
 
-/// Writes a line for each record of the repository that the input is, in the order of keys: the key,
-/// in which `%` and two digits stand for a byte that could end a word, a space, and the CID of the
-/// record. Or writes nothing, and tells why it is none. Whether it is one. Records themselves need
-/// not be there. The blocks of the input are in memory.
+/// Writes a line for each record of the repository in the input, in key order: the key, a space,
+/// and the CID of the record. In the key, `%` and two hexadecimal digits stand for a byte that
+/// could end a word, and for `%`. If the input is not a repository, writes only an error message
+/// that says why. Returns whether it is one. The records themselves need not be in the file. The
+/// blocks of the input are in memory.
 pub fn write_records<R: BufRead, W: Write, V: Write>(
     alloc: Global,
     input: &mut R,

@@ -1,4 +1,4 @@
-//! The repository that a file is.
+//! The repository in a CAR file.
 
 ghost use Rattle.std.specs.Prelude.{◌≡◌, ◌∷◌, [], List, IfOk, IfSome, MatchResult};
 ghost use Rattle.ipld_tree.specs.Cid.{CidParts};
@@ -16,10 +16,10 @@ use std::alloc::{AllocError, Global};
 use std::collections::BTreeMap;
 use std::io::BufRead;
 
-/// A repository, or the line that tells why there is none.
+/// A repository, or the line that says why there is none.
 pub type RepoFound = Result<Repo, Vec<u8>>;
 
-/// The first root, or the line that tells that there is none.
+/// Returns the first root, or the line that says that there is none.
 pub fn first_root(alloc: Global, roots: &[Cid]) -> Result<Result<Cid, Vec<u8>>, AllocError>
     ensures { IfOk result (λ r. MatchResult r
         (λ root. (others : List CidParts) × (roots.now ≡ root ∷ others))
@@ -34,7 +34,7 @@ pub fn first_root(alloc: Global, roots: &[Cid]) -> Result<Result<Cid, Vec<u8>>, 
     }
 }
 
-/// The repository whose commit has this name.
+/// Reads the repository whose commit has this CID.
 fn repo_at(
     alloc: Global,
     blocks: &BTreeMap<Cid, Vec<u8>>,
@@ -53,7 +53,7 @@ fn repo_at(
     }
 }
 
-/// The repository whose commit the first root names.
+/// Reads the repository whose commit is the first root.
 pub(crate) fn repo_of(
     alloc: Global,
     roots: &[Cid],
@@ -70,8 +70,9 @@ pub(crate) fn repo_of(
     }
 }
 
-/// The whole repository that the input is, a CAR file, or the line that tells why it is none.
-/// Records themselves need not be in the file. Its blocks are in memory until it is read.
+/// Reads the whole repository in the input, a CAR file, or returns the line that says why there is
+/// none. The records themselves need not be in the file. All its blocks are in memory during the
+/// call.
 pub fn read_file<R: BufRead>(alloc: Global, input: &mut R) -> Result<RepoFound, ToolError>
     ensures { IfSome (R.remaining input.old) (λ b. IfOk result (λ r. MatchResult r
         (λ repo. IsRepoFile b repo.commit repo.records.items)

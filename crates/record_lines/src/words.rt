@@ -1,4 +1,4 @@
-//! Why a repository is not read, in a line.
+//! Lines that say why a repository is not read.
 
 ghost use Rattle.std.specs.Prelude.{◌≡◌, ◌++◌, ◌&&◌, codes, decimal, string_bytes, IfOk, OnOk};
 ghost use Rattle.block_lines.specs.Codecs.{codec_text};
@@ -15,7 +15,7 @@ use ipld_tree::Cid;
 use std::alloc::{AllocError, Global};
 use std::convert::Infallible;
 
-/// Nothing that is said, and this line, which is told.
+/// Returns this line as the error message, without output.
 pub fn told_alone(alloc: Global, line: Vec<u8>) -> Answer
     ensures { IsToldAlone line.items result.0.1 result.0.0.items result.1.items }
 {
@@ -36,14 +36,14 @@ pub fn append_answer(all: &mut Answer, next: &Answer) -> Result<(), AllocError>
     Ok(())
 }
 
-/// A name, and what is wrong with it.
+/// Returns the line of a CID, and what is wrong with it.
 pub fn name_fault_line(alloc: Global, name: &Cid, words: &[u8]) -> Result<Vec<u8>, AllocError>
     ensures { IfOk result (λ v. v.items ≡ name_fault_line name.now words.now) }
 {
     line_of(alloc, &cid_text(name), words, b"")
 }
 
-/// Why a tree is not read. Want of memory is none of the causes.
+/// Returns the line that says why a tree is not read. Out of memory has no line.
 pub fn tree_line(alloc: Global, error: &MstError) -> Result<Vec<u8>, AllocError>
     ensures { IfOk result (λ v. IsOfTree error.now × (v.items ≡ tree_line error.now)) }
 {
@@ -66,7 +66,7 @@ pub fn tree_line(alloc: Global, error: &MstError) -> Result<Vec<u8>, AllocError>
     }
 }
 
-/// A name, and of which version the commit is.
+/// Returns the line of a commit's CID and its version.
 fn version_line(alloc: Global, name: &Cid, version: u8) -> Result<Vec<u8>, AllocError>
     ensures { IfOk result
         (λ v. v.items
@@ -76,7 +76,7 @@ fn version_line(alloc: Global, name: &Cid, version: u8) -> Result<Vec<u8>, Alloc
     name_fault_line(alloc, name, words.as_bytes())
 }
 
-/// What tells why a block is no commit: the message, or else the name of the refusal.
+/// Returns why a block is not a commit: the message, or otherwise the name of the error.
 pub fn cause_text(cause: &DecodeError<Infallible>) -> &str
     ensures { result.now ≡ cause_text cause.now }
 {
@@ -86,7 +86,8 @@ pub fn cause_text(cause: &DecodeError<Infallible>) -> &str
     }
 }
 
-/// Why the repository is not read whose commit has this name. Want of memory is none of the causes.
+/// Returns the line that says why the repository of this commit is not read. Out of memory has no
+/// line.
 pub fn repo_line(alloc: Global, name: &Cid, error: &RepoError) -> Result<Vec<u8>, AllocError>
     ensures { IfOk result (λ v. IsOfRepo error.now × (v.items ≡ repo_line name.now error.now)) }
 {
@@ -103,7 +104,7 @@ pub fn repo_line(alloc: Global, name: &Cid, error: &RepoError) -> Result<Vec<u8>
     }
 }
 
-/// That a file without a root has no commit.
+/// Returns the line for a file without a root, which has no commit.
 pub fn no_root_line(alloc: Global) -> Result<Vec<u8>, AllocError>
     ensures { IfOk result (λ v. v.items ≡ no_root_line) }
 {
@@ -111,7 +112,7 @@ pub fn no_root_line(alloc: Global) -> Result<Vec<u8>, AllocError>
     line_of(alloc, words, b"", b"")
 }
 
-/// A codec in words.
+/// Returns a codec in words.
 fn codec_text(alloc: Global, codec: u64) -> Result<String, AllocError>
     ensures { IfOk result (λ text. string_bytes text ≡ codec_text codec) }
 {
@@ -121,7 +122,7 @@ fn codec_text(alloc: Global, codec: u64) -> Result<String, AllocError>
     }
 }
 
-/// That a record's name says another codec than DAG-CBOR.
+/// Returns the line for a record whose CID has another codec than DAG-CBOR.
 pub fn other_codec_line(alloc: Global, name: &Cid) -> Result<Vec<u8>, AllocError>
     ensures { IfOk result (λ v. v.items ≡ other_codec_line name.now) }
 {

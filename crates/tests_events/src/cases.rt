@@ -1,6 +1,7 @@
-//! Changes of partial trees, by conformance/events.py.
+//! Changes of partial trees, made by conformance/events.py.
 
-/// What is so of it, the nodes, in a file whose root is the tree's, and the root before, or why there is none.
+/// A description; the nodes, in a file whose root is that of the tree; and the root before, or why
+/// there is none.
 pub(crate) const CASES: &[(&str, &[u8], &[u8])] = &[
     (
         "good, 0 records, 1 changes",
@@ -169,7 +170,8 @@ pub(crate) const CASES: &[(&str, &[u8], &[u8])] = &[
     ),
 ];
 
-/// Of the case of this number, in their order: the key, and the record before and after, if there is one.
+/// The changes of each case, by its number, in order: the key, and the record before and after,
+/// empty if there is none.
 pub(crate) const CHANGES: &[(usize, &str, &[u8], &[u8])] = &[
     (
         0,

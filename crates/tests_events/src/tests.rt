@@ -8,7 +8,7 @@ use ipld_tree::Cid;
 use std::alloc::Global;
 use std::test::Fail;
 
-/// The CID, if there are bytes.
+/// Returns the CID of the bytes, `None` if they are empty.
 fn cid_of(bytes: &[u8]) -> Result<Option<Cid>, Fail> {
     if bytes.is_empty() {
         return Ok(None);
@@ -19,7 +19,7 @@ fn cid_of(bytes: &[u8]) -> Result<Option<Cid>, Fail> {
     }
 }
 
-/// The changes of the case of this number.
+/// Returns the changes of the case of this number.
 fn changes_of(alloc: Global, number: usize) -> Result<Vec<Change>, Fail> {
     let mut changes = Vec::new(alloc);
     for row in CHANGES {
@@ -33,7 +33,7 @@ fn changes_of(alloc: Global, number: usize) -> Result<Vec<Change>, Fail> {
     Ok(changes)
 }
 
-/// The word for the refusal.
+/// Returns the word for the refusal.
 fn word(error: &UndoError) -> &'static [u8] {
     match error {
         UndoError::MissingNode(_) => b"missing",
@@ -42,7 +42,7 @@ fn word(error: &UndoError) -> &'static [u8] {
     }
 }
 
-/// Whether the root before is the one that the case wants, or the refusal is.
+/// Returns whether the root before, or the refusal, is the one that the case expects.
 fn is_as_wanted(alloc: Global, number: usize, case: &(&str, &[u8], &[u8])) -> Result<bool, Fail> {
     let Ok(CarBlocks { roots, blocks }) = read_blocks(alloc, case.1) else {
         return Err(Fail::from("no file"));

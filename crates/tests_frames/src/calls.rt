@@ -1,4 +1,4 @@
-//! What C is answered of the frames, beside the answers of a program in another language.
+//! The answers that C gets for the frames, compared with those of a program in another language.
 
 use crate::answers::ANSWERS;
 use crate::cases::CASES;
@@ -6,7 +6,7 @@ use event_calls::{place_frame, put_event};
 use std::alloc::Global;
 use std::test::Fail;
 
-/// The word for the number.
+/// Returns the word for the number.
 fn word(code: i32) -> &'static str {
     match code {
         0 => "ok",
@@ -32,7 +32,8 @@ fn word(code: i32) -> &'static str {
     }
 }
 
-/// How many bytes the answer has: a CID where a node is the cause, a block where it is verified.
+/// Returns whether the answer has the right length: a CID if a node is the cause, a block if the
+/// frame is verified.
 fn is_right_length(code: i32, needed: usize) -> bool {
     match code {
         0 => needed > 100,
@@ -79,8 +80,8 @@ fn what_is_verified_is_answered(rt: HostRuntime) -> Result<(), Fail> {
     Ok(())
 }
 
-/// The numbers that are told of bytes: the kind or why there is none, where the second item begins, and
-/// where it ends.
+/// Returns the numbers for the bytes: the kind or why there is none, where the second item begins,
+/// and where it ends.
 fn placed(alloc: Global, bytes: &[u8]) -> (i32, usize, usize) {
     let (mut body, mut end) = (7, 7);
     let code = place_frame(alloc, bytes, &mut body, &mut end);

@@ -1,5 +1,5 @@
-//! Frames that conformance/events.py made: what is so of it, the frame, the root and the revision that
-//! one knew, and the verdict.
+//! Frames that conformance/events.py made: a description, the frame, the known root and revision,
+//! and the verdict.
 
 pub(crate) const CASES: &[(&str, &[u8], &[u8], &str, &str)] = &[
     (

@@ -1,5 +1,5 @@
-//! Streams that conformance/events.py made: what is so of it, the stream, the lines that are said of it,
-//! and those that are told.
+//! Streams that conformance/events.py made: a description, the stream, the expected output, and the
+//! error messages.
 
 pub(crate) const STREAMS: &[(&str, &[u8], &str, &str)] = &[
     ("nothing", b"", "", ""),

@@ -9,7 +9,7 @@ use std::alloc::Global;
 use std::test::Fail;
 use verified_events::{EventError, Known, UndoError, verify_event};
 
-/// The word for the verdict.
+/// Returns the word for the verdict.
 fn word(error: &EventError) -> &'static str {
     match error {
         EventError::OutOfMemory => "memory",
@@ -37,7 +37,7 @@ fn word(error: &EventError) -> &'static str {
     }
 }
 
-/// What is said of the frame.
+/// Returns the verdict on the frame, as a word.
 fn judged(alloc: Global, frame: &[u8], known: &[u8], rev: &str) -> Result<&'static str, Fail> {
     let Ok(root) = Cid::try_from(known) else {
         return Err(Fail::from("no CID"));
@@ -95,7 +95,7 @@ fn frames_stand_one_after_the_other(rt: HostRuntime) -> Result<(), Fail> {
     Ok(())
 }
 
-/// Whether the bytes are this text; else which they are.
+/// Fails with the bytes as text if they are not this text.
 fn compare(alloc: Global, what: &str, found: &[u8], text: &str) -> Result<(), Fail> {
     if found != text.as_bytes() {
         let found = String::from_utf8_lossy(alloc, found)?;

@@ -1,5 +1,5 @@
-//! Tests of `serde_ipld_dagcbor`: readers, sources, sinks and streams, whatever they show or take at
-//! once, and bytes that are cut.
+//! Tests of `serde_ipld_dagcbor`: readers, sources, sinks and streams, however little they show or
+//! take at once, and bytes that are cut off.
 #![tactic(auto)]
 
 #[cfg(test)]

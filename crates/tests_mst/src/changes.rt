@@ -1,4 +1,4 @@
-//! One record changed, and all that differs, with rows that a program in another language made.
+//! Changes of one record, and all differences, with rows that a program in another language made.
 
 use crate::tests::{Kept, agree, entry, is_named, numbered_all};
 use atproto_mst::{
@@ -11,8 +11,8 @@ use std::alloc::{AllocError, Global};
 use std::collections::BTreeMap;
 use std::test::Fail;
 
-/// Of records 0, 3, 6, to 27: the number of a key, the number of its new record or none, the record
-/// that it had, and the root of the tree then.
+/// For the records 0, 3, 6, to 27: the number of a key, the number of its new record or `None`, the
+/// record that it had, and the root of the tree then.
 const STEPS: &[(u32, Option<u32>, Option<u32>, &[u8])] = &[
     (
         0,
@@ -100,7 +100,7 @@ const OLD: &[(u32, u32)] = &[
     (39, 39),
 ];
 
-/// Each key and its record, of entries that differ from `OLD` in some.
+/// The keys and records of entries that differ from `OLD` in some.
 const NEW: &[(u32, u32)] = &[
     (3, 103),
     (4, 4),
@@ -120,7 +120,7 @@ const NEW: &[(u32, u32)] = &[
     (36, 36),
 ];
 
-/// What differs: the number of a key, of its record in the one, and in the other.
+/// The differences: the number of a key, of its record in the first list, and in the second.
 const CHANGES: &[(u32, Option<u32>, Option<u32>)] = &[
     (1, Some(1), None),
     (3, Some(3), Some(103)),
@@ -142,8 +142,8 @@ const OLD_ROOT: &[u8] = b"bafyreibclx4qhxowyor7zcqxlekik5mt74ufzlthctc6s4rmthwqa
 
 const NEW_ROOT: &[u8] = b"bafyreihqvev4flgcdj25y4ppb4qltcyowatuaouwt5hhghievecmlpnpsy";
 
-/// Of 200 records with the step 11: the number of a key, the number of its new record or none, how
-/// many nodes are new, and the root then.
+/// For 200 records with the step 11: the number of a key, the number of its new record or `None`,
+/// how many nodes are new, and the root then.
 const FRESH: &[(u32, Option<u32>, usize, &[u8])] = &[
     (
         3,
@@ -175,7 +175,7 @@ fn record_of(alloc: Global, number: u32) -> Result<Cid, AllocError> {
     Ok(name_of_block(&key))
 }
 
-/// The record of this number, if it is one.
+/// Returns the record of this number, if there is one.
 fn record_if_any(alloc: Global, number: Option<u32>) -> Result<Option<Cid>, AllocError> {
     match number {
         Some(number) => Ok(Some(record_of(alloc, number)?)),
@@ -192,7 +192,7 @@ fn entries_of(alloc: Global, rows: &[(u32, u32)]) -> Result<Vec<MstEntry>, Alloc
     Ok(all)
 }
 
-/// Puts a record of the key, or removes it, and answers what it had.
+/// Sets the record of the key, or removes the key, and returns the record that it had.
 pub(crate) fn change_one(
     alloc: Global,
     all: &mut Vec<MstEntry>,

@@ -1,4 +1,5 @@
-//! Records that are found, and the nodes on their ways, which a program in another language told.
+//! Records that are found, and the nodes on the way to them, which a program in another language
+//! found.
 
 use crate::tests::{Kept, agree, is_named, numbered, numbered_all};
 use atproto_mst::{MstError, NodeSink, find_record, record_way, write_mst};
@@ -8,7 +9,8 @@ use std::alloc::Global;
 use std::collections::BTreeMap;
 use std::test::Fail;
 
-/// Of the 200 records of `SETS`: a number, whether it is that of a record, and the nodes on the way.
+/// For the 200 records of `SETS`: a number, whether it is that of a record, and the nodes on the
+/// way.
 const WAYS: &[(u32, bool, &[&[u8]])] = &[
     (
         2189,
@@ -71,7 +73,7 @@ const WAYS: &[(u32, bool, &[&[u8]])] = &[
     ),
 ];
 
-/// A node whose first entry shares a byte with no key.
+/// A node whose first entry shares a byte, with no key before it.
 const FRONT: &[u8] =
     b"\xa2\x61\x65\x81\xa4\x61\x6b\x41\x61\x61\x70\x01\x61\x74\xf6\x61\x76\xd8\x2a\x58\x25\x00\x01\x71\x12\x20\x2d\x71\x16\x42\xb7\x26\xb0\x44\x01\x62\x7c\xa9\xfb\xac\x32\xf5\xc8\x53\x0f\xb1\x90\x3c\xc4\xdb\x02\x25\x87\x17\x92\x1a\x48\x81\x61\x6c\xf6";
 
@@ -79,13 +81,13 @@ const FRONT: &[u8] =
 const FRONTS: &[u8] =
     b"\xa2\x61\x65\x82\xa4\x61\x6b\x41\x62\x61\x70\x00\x61\x74\xf6\x61\x76\xd8\x2a\x58\x25\x00\x01\x71\x12\x20\x2d\x71\x16\x42\xb7\x26\xb0\x44\x01\x62\x7c\xa9\xfb\xac\x32\xf5\xc8\x53\x0f\xb1\x90\x3c\xc4\xdb\x02\x25\x87\x17\x92\x1a\x48\x81\xa4\x61\x6b\x41\x61\x61\x70\x02\x61\x74\xf6\x61\x76\xd8\x2a\x58\x25\x00\x01\x71\x12\x20\x2d\x71\x16\x42\xb7\x26\xb0\x44\x01\x62\x7c\xa9\xfb\xac\x32\xf5\xc8\x53\x0f\xb1\x90\x3c\xc4\xdb\x02\x25\x87\x17\x92\x1a\x48\x81\x61\x6c\xf6";
 
-/// A node with no key and no node below it.
+/// A node with no key and no subtree.
 const LOWEST: &[u8] = b"\xa2\x61\x65\x80\x61\x6c\xf6";
 
 /// The front of a node with no key, before the digest of the node below it.
 const ABOVE: &[u8] = b"\xa2\x61\x65\x80\x61\x6c\xd8\x2a\x58\x25\x00\x01\x71\x12\x20";
 
-/// The last of 129 nodes that stand above each other.
+/// The last of 129 nodes, each above the next.
 const OF_129: &[u8] = b"bafyreifmf4qubytiiw6o64efy7dpugwdesm7s3euul3sytyojctwx6udw4";
 
 /// The node above it.
@@ -97,7 +99,7 @@ fn kept(alloc: Global) -> Kept {
     }
 }
 
-/// The nodes of these names alone.
+/// Returns only the nodes of these CIDs.
 fn those_of(alloc: Global, all: &Kept, names: &[Cid]) -> Result<Kept, Fail> {
     let mut some = kept(alloc);
     for name in names {
@@ -145,7 +147,7 @@ fn ways_are_told_and_suffice(rt: HostRuntime) -> Result<(), Fail> {
     Ok(())
 }
 
-/// Over these nodes alone this is found.
+/// Fails unless these nodes alone give this record.
 fn they_suffice(
     alloc: Global,
     nodes: &Kept,
@@ -167,7 +169,7 @@ fn are_named(names: &[Cid], texts: &[&[u8]]) -> Result<(), Fail> {
     Ok(())
 }
 
-/// Where the last node of the way is missing, that is told.
+/// Fails unless a search without the last node of the way reports it as missing.
 fn the_last_is_needed(
     alloc: Global,
     nodes: &Kept,
@@ -238,7 +240,7 @@ fn the_layers_are_counted(rt: HostRuntime) -> Result<(), Fail> {
     }
 }
 
-/// The name of a node with no key, above this one.
+/// Adds a node with no key above this one, and returns its CID.
 fn add_above(alloc: Global, nodes: &mut Kept, below: &Cid) -> Result<Cid, Fail> {
     let mut block = ABOVE.to_vec(alloc)?;
     block.extend_from_slice(below.digest())?;

@@ -1,5 +1,5 @@
-//! What differs between trees of which the nodes that differ are stored, with rows that a program in
-//! another language made.
+//! The differences between trees of which only differing nodes are stored, with rows that a program
+//! in another language made.
 
 use crate::changes::{are_told, change_one};
 use crate::tests::{Kept, agree, is_named, numbered_all};
@@ -12,8 +12,9 @@ use std::test::Fail;
 
 type Blocks = BTreeMap<Cid, Vec<u8>>;
 
-/// Of 200 records with the step 11: the number of each key that is changed, of its record before and
-/// after; how many nodes the tree before has alone, and how many the tree after; and its root.
+/// For 200 records with the step 11: the number of each changed key, of its record before and
+/// after; how many nodes only the tree before has, and only the tree after; and the root of the
+/// tree after.
 const SHARES: &[(&[(u32, Option<u32>, Option<u32>)], usize, usize, &[u8])] = &[
     (
         &[(33, Some(33), Some(34))],
@@ -92,7 +93,7 @@ const SHARES: &[(&[(u32, Option<u32>, Option<u32>)], usize, usize, &[u8])] = &[
     ),
 ];
 
-/// The nodes of these entries, and the root.
+/// Returns the nodes of the tree of these entries, and its root.
 fn tree_of(alloc: Global, all: &[MstEntry]) -> Result<(Kept, Cid), Fail> {
     let mut kept = Kept {
         blocks: BTreeMap::new(alloc),
@@ -101,7 +102,7 @@ fn tree_of(alloc: Global, all: &[MstEntry]) -> Result<(Kept, Cid), Fail> {
     Ok((kept, root))
 }
 
-/// The nodes of the one that the other has not.
+/// Returns the nodes that the first store has and the other lacks.
 fn apart(alloc: Global, one: &Blocks, other: &Blocks) -> Result<Blocks, Fail> {
     let mut found = BTreeMap::new(alloc);
     for (name, block) in one.iter() {
@@ -112,7 +113,7 @@ fn apart(alloc: Global, one: &Blocks, other: &Blocks) -> Result<Blocks, Fail> {
     Ok(found)
 }
 
-/// Puts a block of the one into the other.
+/// Copies a block from the first store to the other.
 fn put(alloc: Global, from: &Blocks, name: &Cid, blocks: &mut Blocks) -> Result<(), Fail> {
     match from.get(name) {
         Some(block) => {
@@ -123,7 +124,7 @@ fn put(alloc: Global, from: &Blocks, name: &Cid, blocks: &mut Blocks) -> Result<
     }
 }
 
-/// Puts all blocks of the one into the other.
+/// Moves all blocks from the first store to the other.
 fn put_all(from: Blocks, blocks: &mut Blocks) -> Result<(), Fail> {
     for (name, block) in from {
         blocks.insert(name, block)?;
@@ -131,7 +132,7 @@ fn put_all(from: Blocks, blocks: &mut Blocks) -> Result<(), Fail> {
     Ok(())
 }
 
-/// The names, in their order.
+/// Returns the CIDs of the blocks, in order.
 fn names_of(alloc: Global, blocks: &Blocks) -> Result<Vec<Cid>, AllocError> {
     let mut names = Vec::new(alloc);
     for (name, _block) in blocks.iter() {
@@ -140,7 +141,7 @@ fn names_of(alloc: Global, blocks: &Blocks) -> Result<Vec<Cid>, AllocError> {
     Ok(names)
 }
 
-/// Without any one of the blocks that one is told.
+/// Fails unless the absence of any one of the blocks is reported.
 fn each_is_read(alloc: Global, blocks: &mut Blocks, old: &Cid, new: &Cid) -> Result<(), Fail> {
     let names = names_of(alloc, blocks)?;
     for name in &names {
@@ -174,7 +175,7 @@ fn is_unread(alloc: Global, blocks: &Blocks, root: &Cid, wanted: MstError) -> Re
     }
 }
 
-/// The entries after these changes.
+/// Returns the entries after these changes.
 fn changed(alloc: Global, rows: &[(u32, Option<u32>, Option<u32>)]) -> Result<Vec<MstEntry>, Fail> {
     let mut all = numbered_all(alloc, 200, 11)?;
     for row in rows {
@@ -183,7 +184,7 @@ fn changed(alloc: Global, rows: &[(u32, Option<u32>, Option<u32>)]) -> Result<Ve
     Ok(all)
 }
 
-/// Only the nodes that differ are read, and the roots.
+/// Fails unless exactly the differing nodes and the roots are read.
 fn is_told_apart(
     alloc: Global,
     row: &(&[(u32, Option<u32>, Option<u32>)], usize, usize, &[u8]),
@@ -238,7 +239,7 @@ fn push_link(alloc: Global, link: &Option<Cid>, out: &mut Vec<u8>) -> Result<(),
     }
 }
 
-/// A node of one key, with this node on both its sides.
+/// Returns a node of one key, with this node on both its sides.
 fn twice(alloc: Global, below: &Option<Cid>) -> Result<Vec<u8>, AllocError> {
     let mut out = Vec::new(alloc);
     out.extend_from_slice(b"\xa2\x61\x65\x81\xa4\x61\x6b\x58\x1f")?;
@@ -252,7 +253,7 @@ fn twice(alloc: Global, below: &Option<Cid>) -> Result<Vec<u8>, AllocError> {
     Ok(out)
 }
 
-/// A node without keys, over this node.
+/// Returns a node without keys, over this node.
 fn keyless(alloc: Global, below: &Option<Cid>) -> Result<Vec<u8>, AllocError> {
     let mut out = Vec::new(alloc);
     out.extend_from_slice(b"\xa2\x61\x65\x80\x61\x6c")?;
@@ -260,8 +261,8 @@ fn keyless(alloc: Global, below: &Option<Cid>) -> Result<Vec<u8>, AllocError> {
     Ok(out)
 }
 
-/// The nodes of a chain without keys under a root of one key, which links to it on both sides; and
-/// the root.
+/// Returns a chain of nodes without keys, under a root of one key that links to it on both sides,
+/// and the root.
 fn chained(alloc: Global, count: u32) -> Result<(Blocks, Cid), Fail> {
     let mut blocks = BTreeMap::new(alloc);
     let mut below = None;
@@ -277,7 +278,7 @@ fn chained(alloc: Global, count: u32) -> Result<(Blocks, Cid), Fail> {
     Ok((blocks, root))
 }
 
-/// How many nodes are in a chain. The root has a key of layer 8.
+/// The lengths of chains. The root has a key of layer 8.
 const CHAINS: &[u32] = &[1, 2, 8, 9, 128];
 
 #[test]

@@ -1,5 +1,5 @@
-//! Roots from the tests of the reference implementation, and roots and counts of nodes that a
-//! program in another language made, of 1 to 1,000 records.
+//! Roots from the tests of the reference implementation. A program in another language made the
+//! other roots and counts of nodes, for 1 to 1,000 records.
 
 ghost use Rattle.std.specs.Prelude.{⊤};
 
@@ -30,7 +30,7 @@ const LAYERS: &[(&[u8], u8)] = &[
 /// The value in the reference's tests.
 const VALUE: &[u8] = b"bafyreie5cvv4h45feadgeuwhbcutmh6t2ceseocckahdoe6uat64zmz454";
 
-/// Keys, and the root of the tree of these.
+/// Keys, and the root of their tree.
 const ROOTS: &[(&[&[u8]], &[u8])] = &[
     (
         &[],
@@ -96,7 +96,7 @@ const SETS: &[(u32, u32, usize, &[u8])] = &[
     ),
 ];
 
-/// A commit over the 50 records of `SETS`, its name, and what its signature is of.
+/// A commit over the 50 records of `SETS`, its CID, and the bytes that its signature signs.
 const COMMIT: &[u8] =
     b"\xa6\x63\x64\x69\x64\x6b\x64\x69\x64\x3a\x70\x6c\x63\x3a\x61\x62\x63\x63\x72\x65\x76\x6d\x33\x6a\x7a\x66\x63\x69\x6a\x70\x6a\x32\x7a\x32\x61\x63\x73\x69\x67\x58\x40\x00\x01\x02\x03\x04\x05\x06\x07\x08\x09\x0a\x0b\x0c\x0d\x0e\x0f\x10\x11\x12\x13\x14\x15\x16\x17\x18\x19\x1a\x1b\x1c\x1d\x1e\x1f\x20\x21\x22\x23\x24\x25\x26\x27\x28\x29\x2a\x2b\x2c\x2d\x2e\x2f\x30\x31\x32\x33\x34\x35\x36\x37\x38\x39\x3a\x3b\x3c\x3d\x3e\x3f\x64\x64\x61\x74\x61\xd8\x2a\x58\x25\x00\x01\x71\x12\x20\x27\xfe\x16\x08\xbb\x16\x11\x5f\xa3\x6a\xa4\x65\x49\x75\xf1\xc4\xc3\x8d\xbc\xe7\xa2\xd9\x73\xdc\x9c\x6a\x85\xcd\x64\x96\xbe\x3a\x64\x70\x72\x65\x76\xf6\x67\x76\x65\x72\x73\x69\x6f\x6e\x03";
 
@@ -105,7 +105,7 @@ const COMMIT_NAME: &[u8] = b"bafyreidpqqjkmqwk27vdrkqsviuooxhlh43tj74gvawhoncl3j
 const SIGNED: &[u8] =
     b"\xa5\x63\x64\x69\x64\x6b\x64\x69\x64\x3a\x70\x6c\x63\x3a\x61\x62\x63\x63\x72\x65\x76\x6d\x33\x6a\x7a\x66\x63\x69\x6a\x70\x6a\x32\x7a\x32\x61\x64\x64\x61\x74\x61\xd8\x2a\x58\x25\x00\x01\x71\x12\x20\x27\xfe\x16\x08\xbb\x16\x11\x5f\xa3\x6a\xa4\x65\x49\x75\xf1\xc4\xc3\x8d\xbc\xe7\xa2\xd9\x73\xdc\x9c\x6a\x85\xcd\x64\x96\xbe\x3a\x64\x70\x72\x65\x76\xf6\x67\x76\x65\x72\x73\x69\x6f\x6e\x03";
 
-/// Nodes in a map.
+/// Nodes, kept in a map.
 #[derive(Drop)]
 pub(crate) struct Kept {
     pub blocks: BTreeMap<Cid, Vec<u8>>,
@@ -146,7 +146,7 @@ pub(crate) fn is_named(name: &Cid, text: &[u8]) -> bool {
     }
 }
 
-/// The record of this number, whose value is the name of its key's bytes.
+/// Returns the record of this number, whose value is the CID of its key's bytes.
 pub(crate) fn numbered(alloc: Global, number: u32) -> Result<MstEntry, AllocError> {
     let text = format!(in alloc; "com.example.record/{number:06}")?;
     entry(alloc, text.as_bytes(), name_of_block(text.as_bytes()))
@@ -265,7 +265,7 @@ fn is_the_repository(alloc: Global, kept: &Kept, name: &Cid, root: Cid) -> Resul
     agree(unsigned.as_slice(), SIGNED)
 }
 
-/// A tree is no repository.
+/// Fails if a tree is read as a repository.
 fn is_no_repository(alloc: Global, kept: &Kept, root: &Cid) -> Result<(), Fail> {
     match read_repo(alloc, &kept.blocks, root) {
         Err(RepoError::NoCommit(_)) => Ok(()),

@@ -1,4 +1,4 @@
-//! Nodes, and their bytes by an encoder in Python, or the refusal.
+//! Nodes, and their bytes or refusals from an encoder in Python.
 
 use dag_pb::{PbLink, encode_node};
 use ipld_tree::Cid;
@@ -9,7 +9,7 @@ use tests_shared::{agree, is_told};
 /// A CID, a name and a size.
 type LinkRow<'a> = (&'a [u8], Option<&'a [u8]>, Option<u64>);
 
-/// A CID of version 1, by the identity.
+/// A CID of version 1, with the identity hash.
 const RAW: &[u8] = b"\x01\x55\x00\x05\x00\x01\x02\x03\x04";
 
 /// A CID of version 0.
@@ -46,7 +46,7 @@ const ROWS: &[(&[LinkRow<'_>], Option<&[u8]>, &[u8])] = &[
         None,
         b"\x12\x16\x0a\x09\x01\x55\x00\x05\x00\x01\x02\x03\x04\x12\x09\x73\x6f\x6d\x65\x20\x6e\x61\x6d\x65",
     ),
-    // sizes: none, and the greatest that JavaScript writes
+    // sizes: zero, and the greatest that JavaScript writes
     (
         &[(RAW, None, Some(0)), (RAW, None, Some(9007199254740991))],
         None,
@@ -64,7 +64,8 @@ const ROWS: &[(&[LinkRow<'_>], Option<&[u8]>, &[u8])] = &[
         Some(b"\x08\x01"),
         b"\x12\x10\x0a\x09\x01\x55\x00\x05\x00\x01\x02\x03\x04\x12\x01\x61\x18\x05\x12\x11\x0a\x09\x01\x55\x00\x05\x00\x01\x02\x03\x04\x12\x01\x62\x18\xac\x02\x0a\x02\x08\x01",
     ),
-    // no name on both sides of an empty one, one name twice, one that goes on, and a great byte
+    // the same name on both sides of an empty one, a name twice, a name that begins another, and a
+    // byte above 0x7f
     (
         &[
             (RAW, None, None),
@@ -83,13 +84,13 @@ const ROWS: &[(&[LinkRow<'_>], Option<&[u8]>, &[u8])] = &[
 /// Links that are not sorted.
 const UNSORTED: &[&[LinkRow<'_>]] = &[
     &[(RAW, Some(b"b"), None), (RAW, Some(b"a"), None)],
-    // a name, and none
+    // a name, and then no name
     &[(RAW, Some(b"a"), None), (RAW, None, None)],
-    // a name, and the front of it
+    // a name, and then a prefix of it
     &[(RAW, Some(b"ab"), None), (RAW, Some(b"a"), None)],
     // the shorter name is the greater one
     &[(RAW, Some(b"b"), None), (RAW, Some(b"ab"), None)],
-    // the last two
+    // only the last two are unsorted
     &[
         (RAW, None, None),
         (RAW, Some(b"\xff"), None),
@@ -97,7 +98,7 @@ const UNSORTED: &[&[LinkRow<'_>]] = &[
     ],
 ];
 
-/// The links.
+/// Returns the links of these rows.
 fn links_of<'a>(alloc: Global, rows: &[LinkRow<'a>]) -> Result<Vec<PbLink<'a>>, Fail> {
     let mut links = Vec::new(alloc);
     for &(hash, name, tsize) in rows {

@@ -1,10 +1,10 @@
-//! Nodes, and their data models by an encoder in Python, or the refusal.
+//! Nodes, and their data models or refusals from an encoder in Python.
 
 use dag_pb_model::{model_of, put_model};
 use std::test::Fail;
 use tests_shared::{agree, is_told};
 
-/// Blocks of DAG-PB, and of DAG-CBOR.
+/// Blocks of DAG-PB, and the same data as blocks of DAG-CBOR.
 const ROWS: &[(&[u8], &[u8])] = &[
     // nothing
     (b"", b"\xa1\x65\x4c\x69\x6e\x6b\x73\x80"),
@@ -33,7 +33,7 @@ const ROWS: &[(&[u8], &[u8])] = &[
         b"\x12\x0f\x0a\x09\x01\x55\x00\x05\x00\x01\x02\x03\x04\x12\x00\x18\x00",
         b"\xa1\x65\x4c\x69\x6e\x6b\x73\x81\xa3\x64\x48\x61\x73\x68\xd8\x2a\x4a\x00\x01\x55\x00\x05\x00\x01\x02\x03\x04\x64\x4e\x61\x6d\x65\x60\x65\x54\x73\x69\x7a\x65\x00",
     ),
-    // a name alone, of two bytes to a character
+    // a name alone, with characters of two bytes
     (
         b"\x12\x0f\x0a\x09\x01\x55\x00\x05\x00\x01\x02\x03\x04\x12\x02\xc3\xa9",
         b"\xa1\x65\x4c\x69\x6e\x6b\x73\x81\xa2\x64\x48\x61\x73\x68\xd8\x2a\x4a\x00\x01\x55\x00\x05\x00\x01\x02\x03\x04\x64\x4e\x61\x6d\x65\x62\xc3\xa9",
@@ -75,7 +75,7 @@ const ROWS: &[(&[u8], &[u8])] = &[
     ),
 ];
 
-/// Blocks without a data model, and why.
+/// Blocks without a data model, and the reasons.
 const REFUSED: &[(&[u8], &str)] = &[
     // a name that is not UTF-8
     (
@@ -87,7 +87,7 @@ const REFUSED: &[(&[u8], &str)] = &[
         b"\x12\x0e\x0a\x09\x01\x55\x00\x05\x00\x01\x02\x03\x04\x12\x01\x61\x12\x0f\x0a\x09\x01\x55\x00\x05\x00\x01\x02\x03\x04\x12\x02\xc3\x28",
         "Err(NameNotText)",
     ),
-    // no node
+    // not a node
     (
         b"\x1a\x00",
         "Err(NoNode(PbError { cause: UnexpectedField(26), place: 0 }))",

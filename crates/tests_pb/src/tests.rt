@@ -1,4 +1,4 @@
-//! What is a block of DAG-PB, with bytes of another program, and where its links lead.
+//! Blocks of DAG-PB, with bytes from another program, and where their links lead.
 
 use dag_pb::check_node;
 use ipld_links::reach_from;
@@ -8,7 +8,7 @@ use std::collections::BTreeMap;
 use std::test::Fail;
 use tests_shared::is_told;
 
-/// Bytes, and what is said of them.
+/// Bytes, and the answer for them.
 const ROWS: &[(&[u8], &str)] = &[
     // nothing
     (b"", "Ok(())"),
@@ -18,17 +18,17 @@ const ROWS: &[(&[u8], &str)] = &[
     (b"\x0a\x02\x61\x62", "Ok(())"),
     // a link
     (b"\x12\x06\x0a\x04\x01\x55\x00\x00", "Ok(())"),
-    // a link of version 0
+    // a link with a CID of version 0
     (
         b"\x12\x24\x0a\x22\x12\x20\x00\x00\x00\x00\x00\x00\x00\x00\x00\x00\x00\x00\x00\x00\x00\x00\x00\x00\x00\x00\x00\x00\x00\x00\x00\x00\x00\x00\x00\x00\x00\x00",
         "Ok(())",
     ),
-    // all of a link
+    // a link with all its fields
     (
         b"\x12\x0b\x0a\x04\x01\x55\x00\x00\x12\x01\x61\x18\x05",
         "Ok(())",
     ),
-    // no name
+    // a link without a name
     (b"\x12\x08\x0a\x04\x01\x55\x00\x00\x18\x05", "Ok(())"),
     // an empty name, and one that is not UTF-8
     (
@@ -40,13 +40,13 @@ const ROWS: &[(&[u8], &str)] = &[
         b"\x12\x09\x0a\x04\x01\x55\x00\x00\x12\x01\x62\x12\x09\x0a\x04\x01\x55\x00\x00\x12\x01\x61",
         "Ok(())",
     ),
-    // links, data
+    // links, then data
     (b"\x12\x06\x0a\x04\x01\x55\x00\x00\x0a\x01\x78", "Ok(())"),
-    // data, links
+    // data, then links
     (b"\x0a\x01\x78\x12\x06\x0a\x04\x01\x55\x00\x00", "Ok(())"),
-    // a long tag
+    // a tag in a long form
     (b"\x92\x00\x06\x0a\x04\x01\x55\x00\x00", "Ok(())"),
-    // a long size
+    // a size in a long form
     (
         b"\x12\x0a\x0a\x04\x01\x55\x00\x00\x18\x85\x80\x00",
         "Ok(())",
@@ -71,13 +71,13 @@ const ROWS: &[(&[u8], &str)] = &[
         b"\x0a\x00\x12\x06\x0a\x04\x01\x55\x00\x00\x0a\x00",
         "Err(PbError { cause: UnexpectedField(10), place: 10 })",
     ),
-    // no count
+    // no length
     (b"\x12", "Err(PbError { cause: Truncated, place: 1 })"),
     // an empty link
     (b"\x12\x00", "Err(PbError { cause: NoHash, place: 2 })"),
     // too few bytes
     (b"\x12\x01", "Err(PbError { cause: Truncated, place: 1 })"),
-    // a name first
+    // the name before the CID
     (
         b"\x12\x02\x12\x00",
         "Err(PbError { cause: UnexpectedField(18), place: 2 })",
@@ -87,7 +87,7 @@ const ROWS: &[(&[u8], &str)] = &[
         b"\x12\x02\x0a\x00",
         "Err(PbError { cause: InvalidCid(Truncated), place: 4 })",
     ),
-    // a CID with a long number
+    // a CID with a number in a long form
     (
         b"\x12\x07\x0a\x05\x01\x55\x80\x00\x00",
         "Err(PbError { cause: InvalidCid(InvalidVarint), place: 4 })",
@@ -117,7 +117,7 @@ const ROWS: &[(&[u8], &str)] = &[
         b"\x12\x0c\x0a\x04\x01\x55\x00\x00\x12\x01\x61\x12\x01\x61",
         "Err(PbError { cause: UnexpectedField(18), place: 11 })",
     ),
-    // half a count
+    // half a length
     (b"\x0a\x80", "Err(PbError { cause: Truncated, place: 1 })"),
     // field 3
     (
@@ -134,12 +134,12 @@ const ROWS: &[(&[u8], &str)] = &[
         b"\x80\x80\x80\x80\x80\x80\x80\x80\x80\x02",
         "Err(PbError { cause: InvalidVarint, place: 0 })",
     ),
-    // ten groups
+    // a number of ten bytes
     (
         b"\x80\x80\x80\x80\x80\x80\x80\x80\x80\x80",
         "Err(PbError { cause: InvalidVarint, place: 0 })",
     ),
-    // a count beyond all
+    // a length beyond the block
     (
         b"\x0a\xff\xff\xff\xff\xff\xff\xff\xff\xff\x01",
         "Err(PbError { cause: Truncated, place: 1 })",
@@ -164,8 +164,8 @@ fn blocks_are_told_from_others(rt: HostRuntime) -> Result<(), Fail> {
     Ok(())
 }
 
-/// Names, and the blocks under them: a directory, with a link to nothing, and one to a node by a name
-/// of version 0, with a link to a leaf.
+/// CIDs, and their blocks: a directory that links to a missing block, and to a node by a CID of
+/// version 0, which links to a leaf.
 const BLOCKS: &[(&[u8], &[u8])] = &[
     (
         b"\x01\x70\x12\x20\x9f\xe1\x3a\xa9\x38\x71\x69\x63\xa8\x91\x8c\x50\x19\x30\xc3\x0b\x7a\x10\xaa\xd3\x15\x3c\xb9\x47\x4c\x20\x29\xee\x5a\x02\xa4\x32",
@@ -181,7 +181,7 @@ const BLOCKS: &[(&[u8], &[u8])] = &[
     ),
 ];
 
-/// The blocks, under their names.
+/// Returns the blocks, by their CIDs.
 fn stored(alloc: Global) -> Result<BTreeMap<Cid, Vec<u8>>, Fail> {
     let mut blocks = BTreeMap::new(alloc);
     for (name, block) in BLOCKS {

@@ -1,10 +1,10 @@
-//! Devices of std of little, which fail.
+//! Devices of std with little room, which fail.
 
 use std::alloc::Global;
 use std::io;
 use std::io::{BufRead, ErrorKind, Read, Write};
 
-/// Shows so many bytes a fill, and fails in this way at one of its fills.
+/// A source that shows `size` bytes a fill, and fails in this way at one of its fills.
 #[derive(Drop)]
 pub struct FaultySource<'a> {
     bytes: &'a [u8],
@@ -49,7 +49,7 @@ impl BufRead for FaultySource<'_> {
     }
 }
 
-/// Takes one byte a call. Where it is full, it takes none, or fails.
+/// A sink that takes one byte a call. When it is full, it takes no byte, or fails.
 #[derive(Drop)]
 pub struct StingySink {
     held: Vec<u8>,
@@ -66,7 +66,7 @@ impl StingySink {
         }
     }
 
-    /// What it took.
+    /// Returns the bytes that the sink took.
     pub fn held(&self) -> &[u8] {
         &self.held
     }

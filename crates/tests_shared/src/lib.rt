@@ -1,5 +1,5 @@
-//! What tests of many crates share, and what needs no reader of types: what a call answers beside
-//! what is wanted, what a value is written as, devices of std, and pieces of blocks.
+//! What tests of many crates share, and what needs no reader of types: comparisons of answers and
+//! of written values with expected ones, devices of std, and pieces of blocks.
 #![tactic(auto)]
 
 mod failing_devices;

@@ -15,7 +15,7 @@ pub const THREE_LINKS: &[&[u8]] = &[
     LINK,
 ];
 
-/// The parts, one after another.
+/// Returns the parts joined.
 pub fn joined(alloc: Global, parts: &[&[u8]]) -> Result<Vec<u8>, AllocError> {
     let mut bytes = Vec::new(alloc);
     for part in parts {
@@ -24,7 +24,7 @@ pub fn joined(alloc: Global, parts: &[&[u8]]) -> Result<Vec<u8>, AllocError> {
     Ok(bytes)
 }
 
-/// So many times the piece, and then the end.
+/// Returns the piece this many times, and then the end.
 pub fn nested(
     alloc: Global,
     piece: &[u8],

@@ -1,10 +1,10 @@
-//! What a call answers, beside what is wanted. A test that fails tells both.
+//! Comparisons of answers with expected ones. A failing test reports both.
 
 use std::alloc::Global;
 use std::fmt::Debug;
 use std::test::Fail;
 
-/// Fails where the two differ.
+/// Fails if the two differ.
 pub fn agree<T: Debug + PartialEq + Copy>(answer: T, wanted: T) -> Result<(), Fail> {
     if answer == wanted {
         return Ok(());
@@ -12,7 +12,7 @@ pub fn agree<T: Debug + PartialEq + Copy>(answer: T, wanted: T) -> Result<(), Fa
     Err(Fail::new(format_args!("{answer:?} in place of {wanted:?}")))
 }
 
-/// Fails where the value's text is another.
+/// Fails if the value's debug text is another.
 pub fn is_told<T: Debug>(alloc: Global, value: &T, wanted: &str) -> Result<(), Fail> {
     let text = format!(in alloc; "{value:?}")?;
     agree(text.as_str(), wanted)

@@ -1,17 +1,17 @@
-//! What a value is written as, beside what is wanted.
+//! Comparisons of written values with expected bytes.
 
 use crate::told::{agree, is_told};
 use dagcbor_write::{Serialize, to_vec};
 use std::alloc::Global;
 use std::test::Fail;
 
-/// Fails where the value is written as other bytes, or is refused.
+/// Fails if the value is written as other bytes, or is refused.
 pub fn writes<T: Serialize>(alloc: Global, value: &T, spelling: &[u8]) -> Result<(), Fail> {
     let written = to_vec(alloc, value)?;
     agree(written.as_slice(), spelling)
 }
 
-/// Fails where a row's value is written as other bytes than those beside it, or is refused.
+/// Fails if the value of a row is written as other bytes than the row's, or is refused.
 pub fn each_writes<T: Serialize>(alloc: Global, rows: &[(T, &[u8])]) -> Result<(), Fail> {
     for (value, spelling) in rows {
         writes(alloc, value, spelling)?;
@@ -19,7 +19,7 @@ pub fn each_writes<T: Serialize>(alloc: Global, rows: &[(T, &[u8])]) -> Result<(
     Ok(())
 }
 
-/// Fails where a write answers anything but this, as text.
+/// Fails if a write gives any other answer, as text.
 pub fn is_unwritten<T: Serialize>(alloc: Global, value: &T, wanted: &str) -> Result<(), Fail> {
     is_told(alloc, &to_vec(alloc, value), wanted)
 }

@@ -1,10 +1,10 @@
-//! What messages say, with bytes and answers that were written by hand from the standard.
+//! Messages. Their bytes and the answers were written by hand from the standard.
 
 use std::test::Fail;
 use tests_shared::{agree, is_told};
 use unix_fs::{next_size, read_unix_fs};
 
-/// Messages, and what is told of them.
+/// Messages, and the answers for them.
 const ROWS: &[(&[u8], &str)] = &[
     // an empty directory
     (
@@ -16,7 +16,7 @@ const ROWS: &[(&[u8], &str)] = &[
         b"\x08\x02\x12\x02hi\x18\x02",
         "Ok(UnixFs { kind: File, content: Some([104, 105]), file_size: Some(2), sizes: [8, 2, 18, 2, 104, 105, 24, 2], hash_type: None, fanout: None })",
     ),
-    // no bytes are not the same as no content
+    // empty content is not the same as no content
     (
         b"\x08\x00\x12\x00",
         "Ok(UnixFs { kind: Raw, content: Some([]), file_size: None, sizes: [8, 0, 18, 0], hash_type: None, fanout: None })",
@@ -51,20 +51,20 @@ const ROWS: &[(&[u8], &str)] = &[
         b"\x08\x82\x00\x18\xff\xff\xff\xff\xff\xff\xff\xff\xff\x01",
         "Ok(UnixFs { kind: File, content: None, file_size: Some(18446744073709551615), sizes: [8, 130, 0, 24, 255, 255, 255, 255, 255, 255, 255, 255, 255, 1], hash_type: None, fanout: None })",
     ),
-    // nothing, and no kind
+    // no fields, and no kind
     (b"", "Err(UnixFsError { cause: NoKind, place: 0 })"),
     (b"\x12\x01a", "Err(UnixFsError { cause: NoKind, place: 3 })"),
-    // a kind that is none
+    // an unknown kind
     (
         b"\x18\x00\x08\x06",
         "Err(UnixFsError { cause: UnknownKind(6), place: 2 })",
     ),
-    // sizes together in one field
+    // several sizes packed in one field
     (
         b"\x08\x02\x22\x02\x01\x01",
         "Err(UnixFsError { cause: PackedSizes, place: 2 })",
     ),
-    // a kind of bytes, and content that is a number
+    // a kind that is bytes, and content that is a number
     (
         b"\x0a\x01\x02",
         "Err(UnixFsError { cause: UnexpectedField(10), place: 0 })",
@@ -91,7 +91,7 @@ const ROWS: &[(&[u8], &str)] = &[
         b"\x08\x02\xf8\xff\xff\xff\x0f\x00",
         "Ok(UnixFs { kind: File, content: None, file_size: None, sizes: [8, 2, 248, 255, 255, 255, 15, 0], hash_type: None, fanout: None })",
     ),
-    // 2^64, and eleven bytes of a number
+    // 2^64, and a number of eleven bytes
     (
         b"\x08\x02\x18\xff\xff\xff\xff\xff\xff\xff\xff\xff\x02",
         "Err(UnixFsError { cause: InvalidVarint, place: 2 })",

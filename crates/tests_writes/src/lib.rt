@@ -1,5 +1,5 @@
-//! Tests of what is written: values of the types of the library, calls of a `Serializer`, CIDs. They
-//! stand on no reader of types, so that they run beside the proofs of those.
+//! Tests of what is written: values of the library's types, calls of a `Serializer`, CIDs. They do
+//! not depend on readers of types, so they run beside the proofs of those.
 #![tactic(auto)]
 
 #[cfg(test)]

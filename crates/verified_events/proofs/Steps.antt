@@ -1,4 +1,4 @@
--- What is verified of an event, and why it is not.
+-- Why an event is verified, and why it is not.
 use Rattle.std.proofs.Common.{◌≡◌, ℕ, ◌+◌, ◌<◌, List, [], ◌∷◌, ◌++◌, length, take, get_or, take-suc, add-one, map, sym, ap, ◌∙◌, subst, arith, true, false}
 use Rattle.std.proofs.lemmas.List.{take_all, map-append}
 use Rattle.std.specs.List.{AllByRecursion}
@@ -23,7 +23,7 @@ forms_push : (ops : List RepoOp) (op : RepoOp) → AllByRecursion HasForm ops �
 forms_push [] op h k = (k, tt)
 forms_push (x ∷ ops) op h k = (h.0, forms_push ops op h.1 k)
 
--- so many of the operations have their form, and are these changes
+-- the first i operations have their form, and are these changes
 pub record Taking (ops : List RepoOp) (i : ℕ) (done : List Change) : Type 0 where
   pub forms : AllByRecursion HasForm (take i ops)
   pub same : changes done ≡ map change_of_op (take i ops)

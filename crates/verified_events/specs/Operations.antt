@@ -1,4 +1,4 @@
--- The operations of an event, as changes of records (AT Protocol specification, sync).
+-- The operations of an event, as changes to records (AT Protocol specification, sync).
 use Rattle.std.specs.Prelude.{List, Option, None, Some, string_bytes, ⊤}
 use Rattle.std.specs.List.{AllByRecursion}
 use Rattle.std.specs.Option.{option_flatten}
@@ -14,7 +14,7 @@ use Rattle.verified_events.specs.declared.refusal.EventError.TheVariants.{OutOfM
 abbrev pub record_before : RepoOp → Option CidParts
 record_before op = option_flatten op.prev
 
--- what is created has no record before, and what is deleted none after
+-- a created record has no record before, and a deleted one has no record after
 abbrev pub FitsAction : Action → Option CidParts → Option CidParts → Type 0
 FitsAction Create None (Some new) = ⊤
 FitsAction Update (Some old) (Some new) = ⊤
@@ -28,7 +28,7 @@ HasForm op = FitsAction op.action (record_before op) op.cid
 abbrev pub change_of_op : RepoOp → Changed
 change_of_op op = (string_bytes op.path, (record_before op, op.cid))
 
--- why they are no changes: one has another form; or memory is wanted
+-- why there are no changes: an operation lacks its action's records; or out of memory
 abbrev pub ChangesRefused : List RepoOp → EventError → Type 0
 ChangesRefused ops OutOfMemory = ⊤
 ChangesRefused ops OtherForm = ¬ AllByRecursion HasForm ops

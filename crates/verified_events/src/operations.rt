@@ -1,4 +1,4 @@
-//! The operations of an event, as changes of records.
+//! The operations of an event, as changes to records.
 
 ghost use Rattle.std.specs.Prelude.{◌≡◌, map, IfOk, MatchBool, MatchResult};
 ghost use Rattle.std.specs.List.{AllByRecursion};
@@ -12,7 +12,7 @@ use event_types::{Action, RepoOp};
 use ipld_tree::Cid;
 use std::alloc::{AllocError, Global};
 
-/// The record that the path had before.
+/// Returns the record that the path had before the operation.
 fn record_before(op: &RepoOp) -> Option<Cid>
     ensures { result ≡ record_before op.now }
 {
@@ -22,7 +22,7 @@ fn record_before(op: &RepoOp) -> Option<Cid>
     }
 }
 
-/// Whether the operation has exactly the records of its action.
+/// Returns whether the operation has exactly the records that its action needs.
 fn has_form(op: &RepoOp) -> bool
     ensures { MatchBool result (HasForm op.now) (¬ HasForm op.now) }
 {
@@ -34,7 +34,7 @@ fn has_form(op: &RepoOp) -> bool
     }
 }
 
-/// What the operation changes.
+/// Converts the operation to a change.
 fn change_of_op(alloc: Global, op: &RepoOp) -> Result<Change, AllocError>
     ensures { IfOk result (λ change. change_of change ≡ change_of_op op.now) }
 {
@@ -46,7 +46,7 @@ fn change_of_op(alloc: Global, op: &RepoOp) -> Result<Change, AllocError>
     })
 }
 
-/// What the operations change, in their order.
+/// Converts the operations to changes, in their order.
 pub(crate) fn changes_of(alloc: Global, ops: &[RepoOp]) -> Result<Vec<Change>, EventError>
     ensures { MatchResult result
         (λ done. AllByRecursion HasForm ops.now × (changes done.items ≡ map change_of_op ops.now))

@@ -9,37 +9,37 @@ use thiserror::Error;
 /// Why a commit event is not verified.
 #[derive(Debug, Drop, Error)]
 pub enum EventError {
-    /// Memory was wanted.
+    /// Out of memory.
     #[error("out of memory")]
     OutOfMemory,
-    /// The event says that it does not tell all.
+    /// The event's `tooBig` is set: it does not contain everything.
     #[error("the event does not tell all: tooBig")]
     TooBig,
-    /// The event says that the history of the repository was written anew.
+    /// The event's `rebase` is set: the repository's history was rewritten.
     #[error("the event tells of a rebase")]
     Rebase,
-    /// There are more operations than an event may have.
+    /// There are more operations than the 200 that an event may have.
     #[error("the event has more than 200 operations")]
     ManyOperations,
-    /// There are more bytes of blocks than an event may have.
+    /// The blocks have more than the 2,000,000 bytes that an event may have.
     #[error("the event has more than 2,000,000 bytes of blocks")]
     ManyBytes,
-    /// The event's revision does not come after the one that is known.
+    /// The event's revision does not come after the known one.
     #[error("the revision does not come after the one that is known")]
     NotAfter,
-    /// The event's `prevData` is another root than the one that is known.
+    /// The event's `prevData` differs from the known root.
     #[error("prevData is another root than the one that is known")]
     OtherRoot,
     /// The event has no `prevData`, and no root is known.
     #[error("the event has no prevData, and no root is known")]
     NoRoot,
-    /// An operation has a record that its action has not, or lacks one.
+    /// An operation has a record that its action must not have, or lacks one.
     #[error("an operation lacks a record of its action, or has one more")]
     OtherForm,
-    /// The blocks are no file of version 1.
+    /// The blocks are not a CAR file of version 1.
     #[error("the blocks are no CAR file of version 1: {0}")]
     NoCar(CarError<Infallible>),
-    /// The file's first root is not the commit.
+    /// The CAR file's first root is not the commit.
     #[error("the first root of the blocks is not the commit")]
     OtherCommit,
     /// The commit is not read.
@@ -48,13 +48,13 @@ pub enum EventError {
     /// The commit's `did` is not the event's `repo`.
     #[error("the commit is of another repository")]
     OtherRepository,
-    /// The commit's `rev` is not that of the event.
+    /// The commit's `rev` is not the event's `rev`.
     #[error("the commit is of another revision")]
     OtherRevision,
-    /// The operations are not undone.
+    /// The operations cannot be undone, for this reason.
     #[error("the operations are not undone: {0}")]
     NotUndone(UndoError),
-    /// Undone, the operations lead to another root than the one before.
+    /// Undoing the operations gives another root than the one before.
     #[error("the operations lead from another root")]
     LeadsElsewhere,
 }

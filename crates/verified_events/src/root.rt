@@ -6,8 +6,8 @@ ghost use Rattle.verified_events.specs.Roots.{BeginsAt, NoBegin};
 use crate::refusal::EventError;
 use ipld_tree::Cid;
 
-/// The root from which the event leads: the one that it says and the one that is known, which must be
-/// the same, or the one of them that there is.
+/// Returns the root from which the event leads: the root that the event states or the known one. If
+/// there are both, they must be equal.
 pub(crate) fn root_before(said: Option<Cid>, known: Option<Cid>) -> Result<Cid, EventError>
     ensures { MatchResult result (BeginsAt said known) (NoBegin said known) }
 {

@@ -1,4 +1,4 @@
-//! Whether a commit event is right.
+//! Verifying a commit event.
 
 ghost use Rattle.std.specs.Prelude.{◌≡◌, ◌≢◌, IfErr, IfOk, MatchBool, MatchResult, map, string_bytes, ⊤, List};
 ghost use Rattle.std.specs.Option.{option_flatten};
@@ -22,10 +22,10 @@ use ipld_tree::Cid;
 use std::alloc::Global;
 use std::collections::BTreeMap;
 
-/// The most operations of an event.
+/// The most operations that an event may have.
 const MOST_OPERATIONS: usize = 200;
 
-/// The most bytes of an event's blocks.
+/// The most bytes of blocks that an event may have.
 const MOST_BYTES: usize = 2_000_000;
 
 /// What is known of a repository: the root of its tree, and its revision.
@@ -35,20 +35,20 @@ pub struct Known<'a> {
     pub rev: &'a str,
 }
 
-/// What is verified of an event.
+/// A verified event.
 #[derive(Debug, Drop)]
 pub struct Verified {
     /// The commit after the event.
     pub commit: Commit,
-    /// What the commit's signature is of. Whether it is, and by which key, is left to the caller.
+    /// The bytes that the commit's signature signs. The caller checks the signature and its key.
     pub signed: Vec<u8>,
     /// The root of the tree before the event.
     pub before: Cid,
-    /// What the operations change, one after the other.
+    /// The changes of the operations, in order.
     pub changes: Vec<Change>,
 }
 
-/// Whether the event may be read on its own: it tells all, within the limits.
+/// Checks that the event contains everything, and is within the limits.
 fn check_limits(frame: &CommitFrame<'_>) -> Result<(), EventError>
     ensures { MatchResult result (λ _. IsWithinLimits frame.now) (LimitsRefused frame.now) }
 {
@@ -67,7 +67,7 @@ fn check_limits(frame: &CommitFrame<'_>) -> Result<(), EventError>
     Ok(())
 }
 
-/// Whether the revision comes after the one that is known, if one is.
+/// Returns whether the revision comes after the known one, if there is one.
 fn comes_after(rev: &str, known: &Option<Known<'_>>) -> bool
     ensures { MatchBool result (ComesAfter rev.now known.now) (¬ ComesAfter rev.now known.now) }
 {
@@ -77,7 +77,7 @@ fn comes_after(rev: &str, known: &Option<Known<'_>>) -> bool
     }
 }
 
-/// The root that is known.
+/// Returns the known root.
 fn root_known(known: &Option<Known<'_>>) -> Option<Cid>
     ensures { result ≡ root_known known.now }
 {
@@ -87,7 +87,7 @@ fn root_known(known: &Option<Known<'_>>) -> Option<Cid>
     }
 }
 
-/// The root that the event says was before.
+/// Returns the root that the event states as the one before.
 fn root_said(event: &CommitEvent) -> Option<Cid>
     ensures { result ≡ root_said event.now }
 {
@@ -97,7 +97,7 @@ fn root_said(event: &CommitEvent) -> Option<Cid>
     }
 }
 
-/// Whether the first root is the commit.
+/// Returns whether the first root is the commit.
 fn is_first(roots: &[Cid], commit: &Cid) -> bool
     ensures { result ≡ is_first roots.now commit.now }
 {
@@ -107,7 +107,7 @@ fn is_first(roots: &[Cid], commit: &Cid) -> bool
     }
 }
 
-/// The blocks of the event's file, whose first root is the commit.
+/// Reads the blocks of the event's CAR file, and checks that its first root is the commit.
 fn blocks_of(alloc: Global, frame: &CommitFrame<'_>) -> Result<BTreeMap<Cid, Vec<u8>>, EventError>
     ensures { MatchResult result (λ blocks. HoldsSections frame.now (stored_in blocks))
         (FileRefused frame.now) }
@@ -126,7 +126,7 @@ fn blocks_of(alloc: Global, frame: &CommitFrame<'_>) -> Result<BTreeMap<Cid, Vec
     }
 }
 
-/// Whether the two are the same text.
+/// Returns whether the two texts are equal.
 fn are_same(first: &String, second: &String) -> bool
     ensures { MatchBool result (string_bytes first.now ≡ string_bytes second.now)
         (string_bytes first.now ≢ string_bytes second.now) }
@@ -134,7 +134,7 @@ fn are_same(first: &String, second: &String) -> bool
     first.as_str() == second.as_str()
 }
 
-/// The commit of the event, which says the same repository and revision.
+/// Reads the event's commit, and checks that it has the event's repository and revision.
 fn commit_of(
     alloc: Global,
     event: &CommitEvent,
@@ -159,7 +159,7 @@ fn commit_of(
     Ok(commit)
 }
 
-/// Whether the changes lead to the tree of the commit from the root before.
+/// Checks that the changes lead from the root before to the commit's tree.
 fn check_changes(
     alloc: Global,
     blocks: &BTreeMap<Cid, Vec<u8>>,
@@ -185,7 +185,7 @@ fn check_changes(
     }
 }
 
-/// Verifies the event, which is within the limits, against its blocks.
+/// Verifies an event that is within the limits against its blocks.
 fn verify_content(
     alloc: Global,
     frame: &CommitFrame<'_>,
@@ -214,9 +214,9 @@ fn verify_content(
     }
 }
 
-/// Verifies the event against what is known of the repository, if anything is: its operations lead to
-/// its commit from the root before. Left to the caller is whether the commit is signed by the
-/// account's key.
+/// Verifies the event against what is known of the repository, if anything is: its operations lead
+/// from the root before to its commit. The caller must check that the account's key signed the
+/// commit.
 pub fn verify_event(
     alloc: Global,
     frame: &CommitFrame<'_>,

@@ -1,4 +1,4 @@
-//! What links lead to, in its order.
+//! The blocks that links lead to, in order.
 
 use crate::tests::store::put;
 use dagcbor_blocks::Blocks;
@@ -7,7 +7,7 @@ use std::alloc::Global;
 use std::test::Fail;
 use tests_shared::{LINK, agree};
 
-/// Keeps a list of links, and answers its name.
+/// Stores a list of links, and returns its CID.
 fn put_links(alloc: Global, blocks: &mut Blocks, names: &[Cid]) -> Result<Cid, Fail> {
     let mut links = Vec::new(alloc);
     for name in names {
@@ -16,7 +16,7 @@ fn put_links(alloc: Global, blocks: &mut Blocks, names: &[Cid]) -> Result<Cid, F
     put(blocks, &Ipld::List(links))
 }
 
-/// Fails where other names are reached from the root, or in another order.
+/// Fails if other CIDs are reached from the root, or in another order.
 fn reaches(blocks: &Blocks, root: Cid, names: &[Cid]) -> Result<(), Fail> {
     agree(blocks.reachable(&root)?.as_slice(), names)
 }

@@ -1,4 +1,4 @@
-//! A struct written by hand, which has the name of a map of the same entries.
+//! A struct with an implementation by hand, which has the CID of a map of the same entries.
 
 ghost use Rattle.std.specs.Prelude.{Some, [], ◌∷◌, codes, pos, true};
 ghost use Rattle.serde_ipld_dagcbor.specs.Tree.{integer, entries_tree};

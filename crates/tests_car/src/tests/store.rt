@@ -1,4 +1,4 @@
-//! Blocks that are kept under their names, read, and refused.
+//! Blocks that a store keeps by CID, reads, and refuses.
 
 use crate::tests::sections::NUMBERS;
 use dagcbor_blocks::{Blocks, name_of};
@@ -12,7 +12,7 @@ fn numbers(alloc: Global) -> Result<Vec<u8>, AllocError> {
     Ok(vec![in alloc; 1u8, 2, 3]?)
 }
 
-/// The list of a link to `numbers`, and twice to "foo".
+/// Returns the list of a link to `numbers`, and two to "foo".
 fn parent(alloc: Global, name: Cid, foo: Cid) -> Result<Ipld, AllocError> {
     Ok(Ipld::List(vec![in alloc; Ipld::Link(name), Ipld::Link(foo), Ipld::Link(foo)]?))
 }
@@ -24,23 +24,23 @@ fn a_name_is_that_of_the_spelling(rt: HostRuntime) -> Result<(), Fail> {
     agree(name.to_bytes(alloc)?.as_slice(), NUMBERS)
 }
 
-/// Fails where anything else leads nowhere.
+/// Fails if the store lacks anything but these.
 pub(crate) fn lacks(blocks: &Blocks, missing: &[Cid]) -> Result<(), Fail> {
     agree(blocks.missing()?.as_slice(), missing)
 }
 
-/// Puts the value, and answers its name.
+/// Puts the value, and returns its CID.
 pub(crate) fn put<T: Serialize>(blocks: &mut Blocks, value: &T) -> Result<Cid, Fail> {
     Ok(blocks.put(value)?)
 }
 
-/// Fails where the numbers get another name, or anything leads nowhere then but this.
+/// Fails if the numbers get another CID, or if the store then lacks anything but this.
 fn keeps_numbers(alloc: Global, blocks: &mut Blocks, name: Cid, foo: Cid) -> Result<(), Fail> {
     agree(put(blocks, &numbers(alloc)?)?, name)?;
     lacks(blocks, &[foo])
 }
 
-/// Fails where another value is held under the name.
+/// Fails if another value is stored under the CID.
 fn holds(blocks: &Blocks, name: &Cid, value: Ipld) -> Result<(), Fail> {
     agree(blocks.get::<Ipld>(name)? == Some(value), true)
 }
@@ -61,7 +61,7 @@ fn blocks_are_kept(rt: HostRuntime) -> Result<(), Fail> {
     Ok(())
 }
 
-/// Fails where the block under the name is read as anything else, as text.
+/// Fails if the block under the CID is read as anything else, as text.
 pub(crate) fn gives<'de, T: Deserialize<'de> + Debug>(
     alloc: Global,
     blocks: &'de Blocks,
@@ -94,7 +94,7 @@ fn other_types_are_refused(rt: HostRuntime) -> Result<(), Fail> {
     gives::<Ipld>(alloc, &blocks, &from_slice(alloc, LINK)?, "Ok(None)")
 }
 
-/// A list within a list, so many times.
+/// Returns this many lists, one within the other.
 fn nested_lists(alloc: Global, times: u64) -> Result<Ipld, AllocError> {
     let mut list = Ipld::List(Vec::new(alloc));
     for _ in 0..times {
@@ -103,7 +103,7 @@ fn nested_lists(alloc: Global, times: u64) -> Result<Ipld, AllocError> {
     Ok(list)
 }
 
-/// Fails where what lies too deep is taken, or held then.
+/// Fails if a value that is nested too deep is put, or is stored then.
 fn refuses_depth(alloc: Global, blocks: &mut Blocks) -> Result<(), Fail> {
     let deep = nested_lists(alloc, 128)?;
     let refused = r#"Err(Decode(DepthOverflow { name: "any" }))"#;
@@ -111,7 +111,7 @@ fn refuses_depth(alloc: Global, blocks: &mut Blocks) -> Result<(), Fail> {
     gives::<Ipld>(alloc, blocks, &name_of(alloc, &deep)?, "Ok(None)")
 }
 
-/// Fails where a number without a spelling is taken, or refused in other words.
+/// Fails if a number that cannot be encoded is put, or is refused in other words.
 fn refuses_number(alloc: Global, blocks: &mut Blocks) -> Result<(), Fail> {
     match blocks.put(&18_446_744_073_709_551_616u128) {
         Ok(_) => Err(Fail::new("a number without a spelling")),

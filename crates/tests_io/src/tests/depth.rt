@@ -1,4 +1,4 @@
-//! Budgets of steps of the caller's.
+//! Reads with the caller's budget of steps.
 
 ghost use Rattle.std.specs.Prelude.{◌≤◌};
 
@@ -10,7 +10,7 @@ use std::fmt::Debug;
 use std::test::Fail;
 use tests_shared::{Source, agree, is_told};
 
-/// Fails where a read within no step, or within one, answers anything but this, as text.
+/// Fails if a read within no step, or within one, gives any other answer, as text.
 fn tells_within<'de, T: Deserialize<'de> + Debug>(
     alloc: Global,
     bytes: &'de [u8],
@@ -30,7 +30,7 @@ fn tells_within<'de, T: Deserialize<'de> + Debug>(
 
 const TOO_DEEP: &str = r#"Err(DepthOverflow { name: "any" })"#;
 
-/// Items, whether they are read within one step or within none, and what an untyped read answers.
+/// Items, whether they are read within one step or none, and the answer of an untyped read.
 const WITHIN: &[(&[u8], bool, &str)] = &[
     (b"\x01", false, TOO_DEEP),
     (b"", false, TOO_DEEP),
@@ -53,7 +53,7 @@ fn no_step_and_one(rt: HostRuntime) -> Result<(), Fail> {
     is_told(alloc, &items, told)
 }
 
-/// The text of the refusal of so many lists in each other, and an empty one inside, or of none.
+/// Returns the text of the refusal, if any, of this many nested lists around an empty one.
 fn refusal_of(alloc: Global, lists: usize, steps: usize) -> Result<String, Fail>
     requires { steps ≤ 1024 }
 {

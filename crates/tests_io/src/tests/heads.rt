@@ -1,4 +1,4 @@
-//! Bytes, heads and payloads off a reader, and heads onto a writer.
+//! Bytes, heads and payloads from a reader, and heads to a writer.
 
 ghost use Rattle.std.specs.Prelude.{◌≤◌};
 
@@ -13,7 +13,7 @@ use std::mem::size_of;
 use std::test::Fail;
 use tests_shared::{agree, is_told};
 
-/// Fails where a reader that shows so many bytes a fill gives another head, or more.
+/// Fails if a reader that shows `size` bytes a fill gives another head, or more.
 fn is_head(head: &[u8], size: usize, major: u8, argument: u64) -> Result<(), Fail> {
     let mut reader = Pieces::new(head, size);
     let (read_major, read_argument, _) = pull_head("any", &mut reader)?;
@@ -21,7 +21,7 @@ fn is_head(head: &[u8], size: usize, major: u8, argument: u64) -> Result<(), Fai
     agree(is_at_end(&mut reader)?, true)
 }
 
-/// Fails where the head is written or read otherwise.
+/// Fails if the head is written or read otherwise.
 fn goes_both_ways(alloc: Global, major: u8, argument: u64, head: &[u8]) -> Result<(), Fail>
     requires { major ≤ 7 }
 {
@@ -51,7 +51,7 @@ fn heads_both_ways(rt: HostRuntime) -> Result<(), Fail> {
     Ok(())
 }
 
-/// A look at "a", and it and "b" taken, from a reader that holds nothing else.
+/// Peeks at "a", and then takes it and "b", from a reader that has nothing else.
 fn two_bytes(reader: &mut Pieces<'_>) -> Result<(u8, u8, u8), DecodeError<u8>> {
     let looked = peek_one("any", reader)?;
     let first = pull_one("any", reader)?;
@@ -69,7 +69,7 @@ fn bytes_are_looked_at_and_taken(rt: HostRuntime) -> Result<(), Fail> {
     agree((is_indefinite(0x9f), is_indefinite(0x9e)), (true, false))
 }
 
-/// Whether a payload is lent, and what it is.
+/// Returns whether a payload is borrowed, and its bytes.
 fn lent_or_gathered<'a>(payload: &'a CowSlice<'_, u8>) -> (bool, &'a [u8]) {
     match payload {
         CowSlice::Borrowed(lent) => (true, lent),
@@ -77,7 +77,8 @@ fn lent_or_gathered<'a>(payload: &'a CowSlice<'_, u8>) -> (bool, &'a [u8]) {
     }
 }
 
-/// Fails where other bytes than "abc" come first, or where so many more are told otherwise.
+/// Fails if other bytes than "abc" come first, or if a payload of `more` bytes after them gives
+/// another answer.
 fn pulls(
     alloc: Global,
     input: &mut Input<'_, Pieces<'_>>,

@@ -1,4 +1,4 @@
-//! Hostile bytes: what is cut is refused as cut, however it comes.
+//! Hostile bytes: bytes that are cut off are refused as such, whatever pieces they come in.
 
 use dagcbor_testing::beginnings_are_cut;
 use std::test::Fail;

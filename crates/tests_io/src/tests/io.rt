@@ -1,4 +1,4 @@
-//! Values from buffered sources of std and to devices of std, however little they show or take at
+//! Values from buffered sources of std and to devices of std, however little these show or take at
 //! once.
 
 use serde_ipld_dagcbor::{
@@ -11,7 +11,7 @@ use std::io::ErrorKind;
 use std::test::Fail;
 use tests_shared::{Sink, Source, agree, is_told};
 
-/// Fails where a read of the whole source answers anything else.
+/// Fails if a read of the whole source gives any other answer.
 fn comes<'de, T: DeserializeOwned<'de> + Debug>(
     alloc: Global,
     source: Source<'_>,
@@ -20,7 +20,7 @@ fn comes<'de, T: DeserializeOwned<'de> + Debug>(
     is_told(alloc, &from_reader::<T, Source<'_>>(alloc, source), told)
 }
 
-/// Fails where a read of one item answers anything else.
+/// Fails if a read of one item gives any other answer.
 fn comes_once<'de, T: DeserializeOwned<'de> + Debug>(
     alloc: Global,
     source: &mut Source<'_>,
@@ -60,7 +60,7 @@ fn what_follows_an_item_is_left(rt: HostRuntime) -> Result<(), Fail> {
     agree(source.rest(), b"".as_slice())
 }
 
-/// The kind of the fault that a read is refused with.
+/// Returns the kind of the fault that refuses a read.
 fn read_fault<'de, T: DeserializeOwned<'de>>(
     alloc: Global,
     source: Source<'_>,
@@ -82,7 +82,7 @@ fn an_interrupted_fill_is_not_retried(rt: HostRuntime) -> Result<(), Fail> {
     comes_once::<u8>(alloc, &mut Source::interrupted(b"\x01", 0), "Ok(1)")
 }
 
-/// The kind of the fault that a write is refused with.
+/// Returns the kind of the fault that refuses a write.
 fn write_fault<T: Serialize>(alloc: Global, sink: &mut Sink, value: &T) -> Option<ErrorKind> {
     match to_writer(alloc, sink, value) {
         Err(EncodeError::Write(fault)) => Some(fault.kind()),
@@ -100,7 +100,7 @@ fn a_fault_of_a_write_is_passed_on(rt: HostRuntime) -> Result<(), Fail> {
     agree(sink.held(), b"\x83\x01".as_slice())?;
     let fault = write_fault(alloc, &mut Sink::new(alloc, 0, 0), &true);
     agree(fault, Some(ErrorKind::WriteZero))?;
-    // A value without a spelling.
+    // A value that cannot be encoded.
     let mut sink = Sink::new(alloc, 1, 0);
     let refused = to_writer(alloc, &mut sink, &18_446_744_073_709_551_616u128);
     let told = r#"Err(Msg("Unsigned integer must be within [0, u64::MAX] range"))"#;

@@ -1,4 +1,4 @@
-//! Bytes, heads and payloads through buffered sources.
+//! Bytes, heads and payloads from buffered sources.
 
 use arrayvec::ArrayVec;
 use dagcbor_core::DecodeError;
@@ -16,12 +16,12 @@ use tests_shared::{Source, agree, is_told};
 /// A source, as an input.
 type Gathering<'a> = Input<'a, IoReader<Source<'a>>>;
 
-/// Fails where another head comes.
+/// Fails if another head comes.
 fn takes_head(input: &mut Gathering<'_>, name: &str, wanted: (u8, u64, u8)) -> Result<(), Fail> {
     agree(pull_head(name, input)?, wanted)
 }
 
-/// Fails where other bytes than "abc" come, or are lent, or other bytes than "de" after them.
+/// Fails if the bytes are not "abc", or are borrowed, or if the bytes after them are not "de".
 fn takes_payloads(alloc: Global, input: &mut Gathering<'_>) -> Result<(), Fail> {
     let payload = pull_payload(alloc, "string", input, 3)?;
     agree(payload.as_slice(), b"abc".as_slice())?;
@@ -30,7 +30,7 @@ fn takes_payloads(alloc: Global, input: &mut Gathering<'_>) -> Result<(), Fail> 
     agree(short.as_slice(), b"de".as_slice())
 }
 
-/// Fails where a byte is left.
+/// Fails if a byte is left.
 fn is_taken(alloc: Global, mut input: Gathering<'_>) -> Result<(), Fail> {
     agree(is_at_end(&mut input)?, true)?;
     let end = r#"Err(Eof { name: "any", expect: Small(1) })"#;
@@ -41,7 +41,7 @@ fn is_taken(alloc: Global, mut input: Gathering<'_>) -> Result<(), Fail> {
     }
 }
 
-/// Fails where a source that shows so many bytes a fill gives other heads and payloads, or more.
+/// Fails if a source that shows `size` bytes a fill gives other heads and payloads, or more.
 fn are_gathered(alloc: Global, bytes: &[u8], size: usize) -> Result<(), Fail> {
     let mut input: Gathering<'_> = Input::Reader(IoReader::new(Source::new(bytes, size)));
     takes_head(&mut input, "u64", (0, 4_294_967_296, 0x1b))?;
@@ -59,7 +59,7 @@ fn heads_and_payloads_are_gathered(rt: HostRuntime) -> Result<(), Fail> {
     Ok(())
 }
 
-/// Fails where a reader that is asked for so many bytes shows others.
+/// Fails if a reader that is asked for `want` bytes shows others.
 fn shows<R: Read>(reader: &mut R, want: usize, wanted: &[u8]) -> Result<(), Fail> {
     match reader.prepare(want) {
         Ok(()) => agree(reader.shown(), wanted),
@@ -67,7 +67,7 @@ fn shows<R: Read>(reader: &mut R, want: usize, wanted: &[u8]) -> Result<(), Fail
     }
 }
 
-/// Fails where another byte is looked at.
+/// Fails if another byte is peeked.
 fn looks<R: Read>(reader: &mut R, wanted: u8) -> Result<(), Fail> {
     match peek_one("any", reader) {
         Ok(byte) => agree(byte, wanted),
@@ -75,7 +75,7 @@ fn looks<R: Read>(reader: &mut R, wanted: u8) -> Result<(), Fail> {
     }
 }
 
-/// Fails where another byte is taken.
+/// Fails if another byte is taken.
 fn takes<R: Read>(reader: &mut R, wanted: u8) -> Result<(), Fail> {
     match pull_one("any", reader) {
         Ok(byte) => agree(byte, wanted),
@@ -104,7 +104,7 @@ fn nothing_is_taken_early_of_a_lent_source(_rt: HostRuntime) -> Result<(), Fail>
     agree(source.rest(), b"bcd".as_slice())
 }
 
-/// The kind of the fault that is answered.
+/// Returns the kind of the fault in the answer.
 fn fault_of(answer: Result<u8, DecodeError<io::Error>>) -> Option<ErrorKind> {
     match answer {
         Err(DecodeError::Read(fault)) => Some(fault.kind()),
@@ -143,7 +143,7 @@ fn a_long_payload_is_whole(rt: HostRuntime) -> Result<(), Fail> {
     agree(payload.as_slice(), bytes.as_slice())
 }
 
-/// Fails where a reader has other steps than 256, or one that was given back is not among them.
+/// Fails if a reader does not have 256 steps, counting one that was spent and given back.
 fn has_256_steps<R: Read>(reader: &mut R) -> Result<(), Fail> {
     if !reader.step_in() {
         return Err(Fail::new("no step"));

@@ -1,4 +1,4 @@
-//! What a `Deserializer`, a `Serializer` and their devices are like between calls.
+//! The state of a `Deserializer`, a `Serializer` and their devices between calls.
 
 use dagcbor_testing::{FaultyWriter, Pieces};
 use serde_ipld_dagcbor::{
@@ -11,7 +11,7 @@ use std::fmt::Display;
 use std::test::Fail;
 use tests_shared::{agree, is_told};
 
-/// An item and the end after it, twice, as text.
+/// Reads an item and the end after it, twice, and returns the answers as text.
 fn twice(alloc: Global, bytes: &[u8]) -> Result<String, AllocError> {
     let mut de = Deserializer::from_slice(bytes);
     let first = (de.deserialize_any(alloc), de.end());
@@ -19,7 +19,7 @@ fn twice(alloc: Global, bytes: &[u8]) -> Result<String, AllocError> {
     format!(in alloc; "{first:?} {second:?}")
 }
 
-/// What two items and the ends after them are told as.
+/// Bytes, and the answers of two items and the ends after them.
 const TWICE: &[(&[u8], &str)] = &[
     (
         b"\x18\x17\x01",
@@ -39,7 +39,8 @@ fn a_refusal_lasts_and_trailing_data_changes_nothing(rt: HostRuntime) -> Result<
     Ok(())
 }
 
-/// Three items of a reader that shows so many bytes a fill, and the end after them, as text.
+/// Reads three items and the end after them from a reader that shows `size` bytes a fill, and
+/// returns the answers as text.
 fn three_items(alloc: Global, bytes: &[u8], size: usize) -> Result<String, AllocError> {
     let mut de = Deserializer::from_reader(Pieces::new(bytes, size));
     let items = (
@@ -60,7 +61,7 @@ fn fills_of_any_size_read_the_same(rt: HostRuntime) -> Result<(), Fail> {
     for size in [1, 3, 64] {
         agree(three_items(alloc, input, size)?.as_str(), told)?;
     }
-    // An announced length reserves nothing.
+    // An announced length reserves no memory.
     let input = b"\x5b\xff\xff\xff\xff\xff\xff\xff\xffab";
     let mut de = Deserializer::from_reader(Pieces::new(input, 1));
     let cut = r#"Err(Eof { name: "bytes", expect: Big })"#;
@@ -69,8 +70,7 @@ fn fills_of_any_size_read_the_same(rt: HostRuntime) -> Result<(), Fail> {
     is_told(alloc, &de.deserialize_any(alloc), "Ok(Bytes([97, 98, 99]))")
 }
 
-/// Fails where a read whose reader faults at this fill, and the end after it, answer anything
-/// else.
+/// Fails if a read whose reader faults at this fill, and the end after it, give any other answers.
 fn text_and_end(alloc: Global, fill: u64, told: &str) -> Result<(), Fail> {
     let mut de = Deserializer::from_reader(Pieces::failing(b"\x62ab", 1, fill));
     let answer = de.deserialize_any(alloc);
@@ -109,7 +109,7 @@ fn data_is_for_no_human(rt: HostRuntime) -> Result<(), Fail> {
 
 #[test]
 fn names(rt: HostRuntime) -> Result<(), Fail> {
-    // Thirty bytes and a character of two: it does not fit whole.
+    // Thirty bytes and a character of two bytes, which does not fit whole.
     agree(
         Name::new("aaaaaaaaaaaaaaaaaaaaaaaaaaaaaaé").as_str(),
         "aaaaaaaaaaaaaaaaaaaaaaaaaaaaaa",
@@ -119,7 +119,7 @@ fn names(rt: HostRuntime) -> Result<(), Fail> {
     is_shown(rt.alloc(), &Name::new("any"), "any")
 }
 
-/// Fails where the value is shown as another text.
+/// Fails if the value is displayed as another text.
 fn is_shown<T: Display>(alloc: Global, value: &T, wanted: &str) -> Result<(), Fail> {
     let text = format!(in alloc; "{value}")?;
     agree(text.as_str(), wanted)
@@ -128,7 +128,7 @@ fn is_shown<T: Display>(alloc: Global, value: &T, wanted: &str) -> Result<(), Fa
 #[test]
 fn messages(rt: HostRuntime) -> Result<(), Fail> {
     let alloc = rt.alloc();
-    // Sixty-two bytes and a character of two: it does not fit whole.
+    // Sixty-two bytes and a character of two bytes, which does not fit whole.
     agree(
         Message::new("aaaaaaaaaaaaaaaaaaaaaaaaaaaaaaaaaaaaaaaaaaaaaaaaaaaaaaaaaaaaaaé").as_str(),
         "aaaaaaaaaaaaaaaaaaaaaaaaaaaaaaaaaaaaaaaaaaaaaaaaaaaaaaaaaaaaaa",

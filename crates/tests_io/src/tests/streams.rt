@@ -1,4 +1,4 @@
-//! Values one after the other.
+//! Streams of values.
 
 ghost use Rattle.std.specs.Prelude.{◌+◌, ◌≤◌, length, IfOk, List, Option, true};
 ghost use Rattle.serde_ipld_dagcbor.specs.Streams.{AreStreamItems, AreUpTo};
@@ -14,7 +14,7 @@ use std::fmt::Debug;
 use std::test::Fail;
 use tests_shared::{Source, agree, is_told, joined};
 
-/// Fails where something else comes next, as text.
+/// Fails if anything else comes next, as text.
 fn comes<'de, T: Deserialize<'de> + Debug, R: Read>(
     alloc: Global,
     stream: &mut StreamDeserializer<'de, R, T>,
@@ -26,7 +26,7 @@ where
     is_told(alloc, &stream.next(), told)
 }
 
-/// Fails where anything else comes than these, told in turn, and then nothing.
+/// Fails if anything but these texts comes, in order, and then the end.
 fn gives<'de, T: Deserialize<'de> + Debug, R: Read>(
     alloc: Global,
     mut stream: StreamDeserializer<'de, R, T>,
@@ -41,7 +41,7 @@ where
     comes(alloc, &mut stream, "None")
 }
 
-/// Fails where readers of the bytes give anything else as texts.
+/// Fails if readers of the bytes give any other texts.
 fn gives_texts(alloc: Global, bytes: &[u8], told: &[&str]) -> Result<(), Fail> {
     gives(alloc, iter_from_reader::<String, _>(alloc, bytes), told)?;
     let reader = Deserializer::from_reader(IoReader::new(bytes));
@@ -59,7 +59,7 @@ fn texts_one_behind_the_other(rt: HostRuntime) -> Result<(), Fail> {
     gives_texts(rt.alloc(), b"\x66foobar\x63ba", told)
 }
 
-/// Fails where a fault at this fill is not the last that comes.
+/// Fails if a fault at this fill is not the only and last item.
 fn is_fault(alloc: Global, fill: u64) -> Result<(), Fail> {
     let reader = Pieces::failing(b"\x83\x01\x02\x03", 1, fill);
     let stream = Deserializer::from_reader(reader).into_iter::<Ipld>(alloc);
@@ -83,14 +83,14 @@ fn a_refusal_is_the_last(rt: HostRuntime) -> Result<(), Fail> {
     let mut de = Deserializer::from_slice(b"\x18\x17");
     agree(de.deserialize_u8().is_err(), true)?;
     gives(alloc, de.into_iter::<u8>(alloc), &["Some(Err(Failed))"])?;
-    // A list that was begun.
+    // A list whose head was read.
     let mut de = Deserializer::from_slice(b"\x82\x01\x02\x01");
     agree(de.deserialize_seq().is_ok(), true)?;
     let items = &["Some(Ok(1))", "Some(Ok(2))", "Some(Ok(1))"];
     gives(alloc, de.into_iter::<u8>(alloc), items)
 }
 
-/// How many items come of the bytes. That the iterator ends is known of its contract.
+/// Returns how many items come from the bytes. The iterator's contract says that it ends.
 fn how_many(alloc: Global, bytes: &[u8]) -> usize
     ensures { result ≤ length bytes.now + 1 }
 {
@@ -99,7 +99,7 @@ fn how_many(alloc: Global, bytes: &[u8]) -> usize
         .count()
 }
 
-/// What comes of the bytes: the stream of the type on them, by the law.
+/// Returns the items that come from the bytes: by the law, the stream of the type on them.
 fn items_of<'a, T: Deserialize<'a>>(
     alloc: Global,
     bytes: &'a [u8],
@@ -113,7 +113,7 @@ fn items_of<'a, T: Deserialize<'a>>(
         .collect(alloc)
 }
 
-/// Whether the items are these two values.
+/// Returns whether the items are these two values.
 fn are(items: &[Result<Ipld, DecodeError<Infallible>>], one: &Ipld, other: &Ipld) -> bool {
     match items {
         [Ok(first), Ok(second)] => first == one && second == other,
@@ -121,7 +121,7 @@ fn are(items: &[Result<Ipld, DecodeError<Infallible>>], one: &Ipld, other: &Ipld
     }
 }
 
-/// Whether a source that shows few bytes a fill gives these two values, and nothing more.
+/// Returns whether a source that shows few bytes a fill gives these two values, and nothing more.
 fn gives_two(alloc: Global, bytes: &[u8], one: &Ipld, other: &Ipld) -> bool {
     let mut stream = iter_from_reader::<Ipld, _>(alloc, Source::new(bytes, 64));
     match (stream.next(), stream.next(), stream.next()) {
@@ -130,7 +130,7 @@ fn gives_two(alloc: Global, bytes: &[u8], one: &Ipld, other: &Ipld) -> bool {
     }
 }
 
-/// Fails where the two blocks, one after the other, give another stream than the two.
+/// Fails if the two blocks, one after the other, give a stream other than the two.
 pub(crate) fn is_split(alloc: Global, first: &[u8], second: &[u8]) -> Result<(), Fail> {
     let bytes = joined(alloc, &[first, second])?;
     let one: Ipld = from_slice(alloc, first)?;

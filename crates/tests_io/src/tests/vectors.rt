@@ -1,5 +1,5 @@
-//! Blocks of the standard's and the original's examples: each is the spelling of one tree, however
-//! its bytes come.
+//! Blocks from the examples of the standard and the original: each is the spelling of one tree,
+//! whatever pieces its bytes come in.
 
 use crate::tests::streams::is_split;
 use dagcbor_testing::is_written_again;
@@ -58,7 +58,7 @@ const LONG: &[(&[u8], usize)] = &[
     (b"\x5a\x00\x01\x11\x70", 70_000),
 ];
 
-/// A byte string of this head and so many bytes.
+/// Returns a byte string of this head and `length` bytes.
 fn long_block(alloc: Global, head: &[u8], length: usize) -> Result<Vec<u8>, AllocError> {
     let mut block = Vec::from_slice(alloc, head)?;
     for _ in 0..length {
@@ -67,7 +67,7 @@ fn long_block(alloc: Global, head: &[u8], length: usize) -> Result<Vec<u8>, Allo
     Ok(block)
 }
 
-/// All vectors, the long ones last.
+/// Returns all vectors, the long ones last.
 fn all(alloc: Global) -> Result<Vec<Vec<u8>>, AllocError> {
     let mut blocks = Vec::new(alloc);
     for vector in VECTORS {
@@ -97,7 +97,7 @@ fn two_vectors_split_in_one_way(rt: HostRuntime) -> Result<(), Fail> {
     Ok(())
 }
 
-/// Fails where another block after this one gives another stream than the two.
+/// Fails if another block after this one gives a stream other than the two.
 fn is_split_off(alloc: Global, first: &[u8], blocks: &[Vec<u8>]) -> Result<(), Fail> {
     for second in blocks {
         is_split(alloc, first, second)?;

@@ -1,4 +1,4 @@
-//! Heads onto devices.
+//! Heads to devices.
 
 use dagcbor_core::EncodeError;
 use dagcbor_heads::{IoRefWriter, IoWriter, Write, push_head};
@@ -8,12 +8,12 @@ use std::io::ErrorKind;
 use std::test::Fail;
 use tests_shared::{Sink, agree};
 
-/// Fails where the sink holds other bytes, or was called another number of times.
+/// Fails if the sink holds other bytes, or was called another number of times.
 fn is_held(sink: &Sink, held: &[u8], calls: u64) -> Result<(), Fail> {
     agree((sink.held(), sink.calls()), (held, calls))
 }
 
-/// Fails where a head of nine bytes goes out otherwise, to a sink that takes so many bytes a call.
+/// Fails if a head of nine bytes is written otherwise to a sink that takes `size` bytes a call.
 fn goes_out(alloc: Global, size: usize, calls: u64) -> Result<(), Fail> {
     let mut writer = IoWriter::new(Sink::new(alloc, size, 0));
     push_head(&mut writer, 0, 4_294_967_296)?;
@@ -40,7 +40,7 @@ fn pieces_go_out_one_behind_the_other(rt: HostRuntime) -> Result<(), Fail> {
     agree(held.as_slice(), b"\x83\x01".as_slice())
 }
 
-/// The kind of the fault that is answered.
+/// Returns the kind of the fault in the answer.
 fn fault_of(answer: Result<(), EncodeError<io::Error>>) -> Option<ErrorKind> {
     match answer {
         Err(EncodeError::Write(fault)) => Some(fault.kind()),

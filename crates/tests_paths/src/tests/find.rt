@@ -1,14 +1,15 @@
-//! Rows are of a walk over decoded data that was written apart, in Python.
+//! Paths in a block. The rows come from a separate program in Python, which walks over decoded
+//! data.
 
 use dagcbor_decode::Kind;
 use dagcbor_paths::find_slice;
 use std::test::Fail;
 use tests_shared::agree;
 
-/// Where an item of this kind begins, and its length.
+/// The kind of an item, where it begins, and its length.
 pub(super) type Place = (Kind, usize, usize);
 
-/// `a map with an array, keys of digits, of a slash, of no bytes, and one that is not ASCII`.
+/// A map with an array and these keys: digits, a slash, an empty key, and one that is not ASCII.
 const DOC: &[u8] =
     b"\xa6\x60\x65\x65\x6d\x70\x74\x79\x61\x30\x63\x6b\x65\x79\x61\x61\x86\xa3\x60\x07\x61\x30\
     \x64\x7a\x65\x72\x6f\x61\x62\x62\x68\x69\x82\x01\x82\x02\x22\xf6\xf5\x42\x78\x79\xd8\x2a\
@@ -16,7 +17,7 @@ const DOC: &[u8] =
     \xe3\xd1\x60\x0a\xd6\x31\xc3\x85\xa5\xd7\xcc\xe2\x3c\x77\x85\x45\x9a\x62\x61\x61\xa1\x61\
     \x78\xa0\x62\xc3\xa9\x81\xf4\x63\x61\x2f\x62\x01";
 
-/// Where the path leads in the block.
+/// Returns where the path leads in the block.
 fn place(block: &[u8], path: &str) -> Result<Option<Place>, Fail> {
     match find_slice(block, path) {
         Ok(Some(item)) => Ok(Some((item.kind, item.place, item.bytes.len()))),

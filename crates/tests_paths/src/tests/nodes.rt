@@ -1,5 +1,6 @@
-//! Rows of paths that lead into nodes of DAG-PB. The blocks, their names and what is wanted are of a walk
-//! over the data model as the specification of DAG-PB has it, which was written apart, in Python.
+//! Rows of paths that lead into nodes of DAG-PB. The blocks, their CIDs and the expected answers
+//! come from a separate program in Python, which walks over the data model of the DAG-PB
+//! specification.
 
 use crate::tests::resolve::{are_named, put};
 use dagcbor_resolve::{item_bytes, resolve, resolve_way};
@@ -23,13 +24,13 @@ const NODE: &[u8] =
     \x40\x0e\xd0\x4f\xf7\x85\x3d\xea\xa9\x9f\x90\xe2\x95\xa0\xfe\xd5\x81\x39\xe0\x1f\x27\x4b\x7b\
     \x16\x18\x00\x0a\x02\x08\x01";
 
-/// A block of DAG-CBOR: an integer, and a link to the node within.
+/// A block of DAG-CBOR: an integer, and a link to the inner node.
 const LEAF: &[u8] =
     b"\xa2\x61\x6e\x07\x62\x69\x6e\xd8\x2a\x58\x25\x00\x01\x70\x12\x20\x06\xb5\xa8\xb0\x23\xe8\x0d\
     \x86\xcb\x95\x4e\x09\xc1\x76\xac\x5c\xae\x31\x1b\x52\x10\xbd\x60\xff\x36\x58\x24\x8b\x30\x5c\
     \xca\x1c";
 
-/// A node of data alone.
+/// A node with data and no links.
 const INNER: &[u8] = b"\x0a\x02hi";
 
 /// A node with a link whose name is not UTF-8.
@@ -37,40 +38,40 @@ const UNNAMED: &[u8] =
     b"\x12\x29\x0a\x24\x01\x71\x12\x20\x87\x1b\x2f\x0e\xa1\x93\xdf\x9a\xe5\xe5\x25\x48\xf8\x19\xb5\
     \x41\xc7\x78\x83\x7d\xa3\x53\x9a\x2e\x8b\x20\x09\x13\xb7\xeb\xc6\x5a\x12\x01\xff\x0a\x01\x78";
 
-/// The node's name, in its binary form.
+/// The node's CID, in binary.
 const NODE_NAME: &[u8] =
     b"\x01\x70\x12\x20\x8c\x6f\x2e\x93\x25\xcc\x02\x01\x52\x3d\x54\x03\xc1\xc7\x95\x06\x11\xa2\x3a\
     \x70\xb2\x28\xe6\xbc\x84\xd2\xcd\x5c\x96\x03\xac\x03";
 
-/// A name, in its binary form.
+/// A CID, in binary.
 const LEAF_NAME: &[u8] =
     b"\x01\x71\x12\x20\x87\x1b\x2f\x0e\xa1\x93\xdf\x9a\xe5\xe5\x25\x48\xf8\x19\xb5\x41\xc7\x78\x83\
     \x7d\xa3\x53\x9a\x2e\x8b\x20\x09\x13\xb7\xeb\xc6\x5a";
 
-/// A name, in its binary form.
+/// A CID, in binary.
 const INNER_NAME: &[u8] =
     b"\x01\x70\x12\x20\x06\xb5\xa8\xb0\x23\xe8\x0d\x86\xcb\x95\x4e\x09\xc1\x76\xac\x5c\xae\x31\x1b\
     \x52\x10\xbd\x60\xff\x36\x58\x24\x8b\x30\x5c\xca\x1c";
 
-/// The name of the node within, of version 0.
+/// The CID of the inner node, of version 0.
 const INNER_OLD_NAME: &[u8] =
     b"\x12\x20\x06\xb5\xa8\xb0\x23\xe8\x0d\x86\xcb\x95\x4e\x09\xc1\x76\xac\x5c\xae\x31\x1b\x52\x10\
     \xbd\x60\xff\x36\x58\x24\x8b\x30\x5c\xca\x1c";
 
-/// A name by the identity, of a node.
+/// An identity CID of a node.
 const INLINE_NAME: &[u8] = b"\x01\x70\x00\x03\x0a\x01\x21";
 
-/// A name, in its binary form.
+/// A CID, in binary.
 const UNNAMED_NAME: &[u8] =
     b"\x01\x70\x12\x20\xb7\x72\xd2\x9f\xfa\x63\x99\xa1\xa0\x89\x7a\x03\xb9\xb9\xbf\x53\x4a\xec\xdd\
     \x4f\x48\x4a\xf5\x34\x83\xda\xd9\x46\x61\xcd\xa3\x39";
 
-/// The name of two bytes that are no node.
+/// The CID of two bytes that are not a node.
 const BAD_NAME: &[u8] =
     b"\x01\x70\x12\x20\xfb\x8d\xa7\xeb\x5b\x1b\x39\x9e\x73\x21\x17\x9d\xac\x9e\x9f\x65\x77\x3d\x73\
     \x31\xe1\xe3\x05\x54\xe3\x91\x1e\x43\x25\xe1\xef\x19";
 
-/// A name under which a node is stored that it does not name.
+/// A CID under which a node is stored that does not match it.
 const OTHER_NAME: &[u8] =
     b"\x01\x70\x12\x20\x98\x20\xee\x6b\x9b\xcc\xa3\x0c\x40\x0e\xd0\x4f\xf7\x85\x3d\xea\xa9\x9f\x90\
     \xe2\x95\xa0\xfe\xd5\x81\x39\xe0\x1f\x27\x4b\x7b\x16";
@@ -87,7 +88,7 @@ fn blocks(alloc: Global) -> Result<BTreeMap<Cid, Vec<u8>>, Fail> {
     Ok(blocks)
 }
 
-/// Fails where the path ends otherwise, or another item is given.
+/// Fails if the path ends otherwise, or leads to another item.
 fn ends(alloc: Global, blocks: &BTreeMap<Cid, Vec<u8>>, root: &Cid, row: &Row) -> Result<(), Fail> {
     let (path, name, left, told, wanted) = *row;
     let Ok(resolved) = resolve(alloc, blocks, root, path) else {
@@ -115,7 +116,8 @@ fn paths_into_nodes(rt: HostRuntime) -> Result<(), Fail> {
     Ok(())
 }
 
-/// A path; the block where it ends, and the path that is left there; how it ends; and the item's bytes.
+/// A path; the block where it ends, and the rest of the path there; how it ends; and the item's
+/// bytes.
 type Row = (
     &'static str,
     &'static [u8],
@@ -289,7 +291,7 @@ fn ways_into_nodes(rt: HostRuntime) -> Result<(), Fail> {
     Ok(())
 }
 
-/// A path, and the names of the blocks on its way.
+/// A path, and the CIDs of the blocks on its way.
 const WAYS: &[(&str, &[&[u8]])] = &[
     ("Data", &[NODE_NAME]),
     ("Links/0/Hash", &[NODE_NAME]),

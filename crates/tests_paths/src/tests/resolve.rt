@@ -1,4 +1,5 @@
-//! Rows are of a walk over decoded blocks that was written apart, in Python, names and all.
+//! Paths over blocks. The rows and CIDs come from a separate program in Python, which walks over
+//! decoded blocks.
 
 use dagcbor_resolve::{resolve, resolve_way};
 use ipld_tree::Cid;
@@ -7,7 +8,7 @@ use std::collections::BTreeMap;
 use std::test::Fail;
 use tests_shared::{agree, is_told};
 
-/// Links to each of the others, and to a block that is not held.
+/// Links to each of the others, and to a block that is not stored.
 const ROOT: &[u8] =
     b"\xa5\x61\x61\x82\xd8\x2a\x58\x25\x00\x01\x71\x12\x20\x00\xf5\x02\x9e\xcb\x58\x10\x5a\x66\
     \x97\x01\x18\x34\x7e\xde\x24\xbc\xdd\xf4\x04\xc2\x28\x99\x16\xed\x98\x28\x57\x60\x41\x45\
@@ -21,7 +22,7 @@ const ROOT: &[u8] =
     \x29\x8a\x10\xd1\xb0\x73\x58\x37\xdc\x4b\xd8\x5d\xac\x64\x1b\x0f\x3c\xef\x27\xa4\x7e\x5d\
     \x53\xa5\x4f\x2f\x3f\x5b\x2f\xcf\xfa";
 
-/// Links to a leaf, and to a block that its name holds itself.
+/// Links to a leaf, and to a block with the identity hash.
 const MID: &[u8] =
     b"\xa3\x61\x62\xd8\x2a\x58\x25\x00\x01\x71\x12\x20\x98\xc0\x45\xc0\xa4\x62\x0c\x07\x68\x88\
     \xf7\x02\x50\x80\xed\xfe\x57\x87\x31\x66\xbc\xa9\x1a\x07\xe7\x6a\x2f\xe9\x5a\xc1\x37\x25\
@@ -35,45 +36,45 @@ const ONLY: &[u8] =
     b"\xd8\x2a\x58\x25\x00\x01\x71\x12\x20\x00\xf5\x02\x9e\xcb\x58\x10\x5a\x66\x97\x01\x18\x34\
     \x7e\xde\x24\xbc\xdd\xf4\x04\xc2\x28\x99\x16\xed\x98\x28\x57\x60\x41\x45\x56";
 
-/// A name, in its binary form.
+/// A CID, in binary.
 const ROOT_NAME: &[u8] =
     b"\x01\x71\x12\x20\xec\x31\x39\x0b\x86\xc4\x20\x7a\x72\x57\x7b\x15\xa3\xe8\xfc\x57\x15\xda\
     \x4f\xcc\x3c\x66\x0c\xc8\x6e\xd2\x1d\x10\x2a\xe6\x34\x90";
 
-/// A name, in its binary form.
+/// A CID, in binary.
 const MID_NAME: &[u8] =
     b"\x01\x71\x12\x20\x00\xf5\x02\x9e\xcb\x58\x10\x5a\x66\x97\x01\x18\x34\x7e\xde\x24\xbc\xdd\
     \xf4\x04\xc2\x28\x99\x16\xed\x98\x28\x57\x60\x41\x45\x56";
 
-/// A name, in its binary form.
+/// A CID, in binary.
 const LEAF_NAME: &[u8] =
     b"\x01\x71\x12\x20\x98\xc0\x45\xc0\xa4\x62\x0c\x07\x68\x88\xf7\x02\x50\x80\xed\xfe\x57\x87\
     \x31\x66\xbc\xa9\x1a\x07\xe7\x6a\x2f\xe9\x5a\xc1\x37\x25";
 
-/// A name, in its binary form.
+/// A CID, in binary.
 const ONLY_NAME: &[u8] =
     b"\x01\x71\x12\x20\x3a\x2b\x7b\xcd\x72\x6f\xdd\x8e\x9a\x90\x97\xa3\x85\xfc\x28\xd3\x8a\x97\
     \xd2\x89\xf6\x60\xc6\x3d\x56\xb2\xf1\x52\x0a\x5c\x86\xf2";
 
-/// A name, in its binary form.
+/// A CID, in binary.
 const RAW_NAME: &[u8] =
     b"\x01\x55\x12\x20\xd7\x43\x9b\xee\x24\x77\x3b\xcb\xfa\x2d\x0a\x97\x94\x7e\xe3\x62\x27\xb1\
     \x0d\x10\x22\xb1\xa5\x58\x47\xe9\x28\x96\x5b\xb6\xbf\xde";
 
-/// A name, in its binary form.
+/// A CID, in binary.
 const OTHER_NAME: &[u8] =
     b"\x01\x71\x12\x20\xd9\x29\x8a\x10\xd1\xb0\x73\x58\x37\xdc\x4b\xd8\x5d\xac\x64\x1b\x0f\x3c\
     \xef\x27\xa4\x7e\x5d\x53\xa5\x4f\x2f\x3f\x5b\x2f\xcf\xfa";
 
-/// A name, in its binary form.
+/// A CID, in binary.
 const GONE_NAME: &[u8] =
     b"\x01\x71\x12\x20\x61\xf8\xef\xee\xe0\xc3\xf0\x81\x7f\x69\x8f\x72\xd5\x25\x4d\x43\xb2\x3c\
     \x01\x2d\x23\x0a\x3e\x6e\xdd\xe5\x6e\xc6\x40\x88\x31\xbb";
 
-/// A name, in its binary form.
+/// A CID, in binary.
 const INLINE_NAME: &[u8] = b"\x01\x71\x00\x06\xa1\x61\x78\x82\x01\x02";
 
-/// Puts the block under the name.
+/// Stores the block under the CID.
 pub fn put(
     blocks: &mut BTreeMap<Cid, Vec<u8>>,
     alloc: Global,
@@ -89,7 +90,7 @@ pub fn put(
     }
 }
 
-/// The blocks, and one under another's name.
+/// Returns the blocks, and one under another block's CID.
 fn blocks(alloc: Global) -> Result<BTreeMap<Cid, Vec<u8>>, Fail> {
     let mut blocks = BTreeMap::new(alloc);
     put(&mut blocks, alloc, ROOT_NAME, ROOT)?;
@@ -119,7 +120,7 @@ fn paths_over_blocks(rt: HostRuntime) -> Result<(), Fail> {
     Ok(())
 }
 
-/// A path; the block where it ends, and the path that is left there; and how it ends.
+/// A path; the block where it ends, and the rest of the path there; and how it ends.
 const ROWS: &[(&str, &[u8], &str, &str)] = &[
     ("", ROOT_NAME, "", r#"Item(Map, 0, 229)"#),
     ("a", ROOT_NAME, "a", r#"Item(List, 3, 46)"#),
@@ -149,7 +150,7 @@ const ROWS: &[(&str, &[u8], &str, &str)] = &[
     ("a/1/0", ROOT_NAME, "a/1/0", r#"NoSuchPath("0")"#),
 ];
 
-/// Fails where these are other names.
+/// Fails if the CIDs are others.
 pub fn are_named(alloc: Global, names: &[Cid], forms: &[&[u8]]) -> Result<(), Fail> {
     agree(names.len(), forms.len())?;
     let mut left = forms;
@@ -177,7 +178,7 @@ fn ways_over_blocks(rt: HostRuntime) -> Result<(), Fail> {
     Ok(())
 }
 
-/// A path, and the names of the blocks on its way.
+/// A path, and the CIDs of the blocks on its way.
 const WAYS: &[(&str, &[&[u8]])] = &[
     ("", &[ROOT_NAME]),
     ("a", &[ROOT_NAME]),

@@ -1,4 +1,4 @@
-//! Lists of segments, each taken whole. Places are counted by hand in the bytes.
+//! Paths as lists of segments, each matched whole. Offsets are counted by hand in the bytes.
 
 use super::find::Place;
 use dagcbor_decode::Kind;
@@ -6,8 +6,8 @@ use dagcbor_paths::find_segments;
 use std::test::Fail;
 use tests_shared::agree;
 
-/// `{"": {"": 1}, "/": 2, "0": [3], "a/b": {"/": {"c/": 4}}, "a//b": 5}`, whose keys stand by their
-/// lengths.
+/// `{"": {"": 1}, "/": 2, "0": [3], "a/b": {"/": {"c/": 4}}, "a//b": 5}`, with keys ordered by
+/// length.
 const SLASHES: &[u8] =
     b"\xa5\x60\xa1\x60\x01\x61/\x02\x610\x81\x03\x63a/b\xa1\x61/\xa1\x62c/\x04\x64a//b\x05";
 
@@ -57,7 +57,7 @@ fn segments_are_taken_whole(_rt: HostRuntime) -> Result<(), Fail> {
     )
 }
 
-/// As the page of `find_segments` says.
+/// The example in the documentation of `find_segments`.
 #[test]
 fn the_example(_rt: HostRuntime) -> Result<(), Fail> {
     agree(

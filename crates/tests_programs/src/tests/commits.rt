@@ -1,6 +1,6 @@
-//! `commit`, `record-proof` and `records --json`: what a repository's commit says, the file that proves
-//! a record, and the data of all records. Which nodes are on the way to a key is told by another
-//! program.
+//! `commit`, `record-proof` and `records --json`: the fields of a repository's commit, the file
+//! that proves a record, and the data of all records. Another program found the nodes on the way to
+//! a key.
 
 use crate::tests::dagcar::owned_words;
 use crate::tests::records::{
@@ -13,11 +13,11 @@ use std::alloc::Global;
 use std::test::Fail;
 use tests_shared::{agree, joined};
 
-/// What the commit says.
+/// The output of `commit`.
 const SAID: &[u8] =
     b"commit bafyreib55bymvenkcvnnrc2nukj7esprfjw5lmgykaodqtl7nerzdfoy3m\ndid did:plc:abc\nrev 3jzfcijpj2z2a\ndata bafyreiddco3ofkthgxkialw4g5zmiq4i72pb2mir7ked7nh5fu3b6nx4zi\nprev none\n";
 
-/// Fails where the words say something else of the file.
+/// Fails if the arguments give anything else for the file.
 fn says(
     alloc: Global,
     words: &[&str],
@@ -52,7 +52,8 @@ fn a_commit_says_who_signs_what(rt: HostRuntime) -> Result<(), Fail> {
     says(alloc, &["commit"], NO_ROOT, (1, b"", NO_ROOT_TOLD))
 }
 
-/// Keys, which of the nodes are on the way to each, from the root on, and which of the records it has.
+/// Keys, the indices of the nodes on the way to each from the root down, and the index of its
+/// record, if it has one.
 const WAYS: &[(&str, &[usize], Option<usize>)] = &[
     ("com.example.note/0", &[4], Some(0)),
     ("com.example.note/1", &[4, 3, 0], Some(1)),
@@ -62,7 +63,7 @@ const WAYS: &[(&str, &[usize], Option<usize>)] = &[
     ("com.example.note/5", &[4, 3], Some(4)),
 ];
 
-/// The section of this number.
+/// Returns the section of this index.
 fn part(sections: &[&'static [u8]], number: usize) -> Result<&'static [u8], Fail> {
     match sections.get(number) {
         Some(section) => Ok(*section),
@@ -84,7 +85,7 @@ fn a_record_is_proved_by_the_blocks_on_its_way(rt: HostRuntime) -> Result<(), Fa
         }
         let words = ["record-proof", key];
         says(alloc, &words, &file, (0, wanted.as_slice(), b""))?;
-        // The proof proves itself.
+        // The proof, as input, gives the same proof.
         says(alloc, &words, &wanted, (0, wanted.as_slice(), b""))?;
     }
     let words = ["record-proof", LAST_WORD, "FILE"];
@@ -95,11 +96,11 @@ fn a_record_is_proved_by_the_blocks_on_its_way(rt: HostRuntime) -> Result<(), Fa
 const DATA: &[u8] =
     b"{\"cid\":{\"/\":\"bafyreiarfwso7unahyhknmngrqc6m57tw2ruw6kdf7dtcpipnciplz5gda\"},\"key\":\"com.example.note/0\",\"value\":{\"text\":\"one\"}}\n{\"cid\":{\"/\":\"bafyreihhtxw2cafw6bs4zl7th2nc3v2glggnl63bdv22svvqcbri6jpnkm\"},\"key\":\"com.example.note/1\",\"value\":{\"text\":\"two\"}}\n{\"cid\":{\"/\":\"bafyreihznkb5f4w7xrun3i6qun2qm2lngkab5req5nwbr2k7fs2bo4hreq\"},\"key\":\"com.example.note/3\",\"value\":{\"text\":\"three\"}}\n{\"cid\":{\"/\":\"bafyreifya3avxxu7fguhsehsjv2qsiytl2xjwsaw2m5xnhbezuetj7kp74\"},\"key\":\"com.example.note/4\",\"value\":{\"text\":\"four\"}}\n{\"cid\":{\"/\":\"bafyreifeem2chwoc4h2nzvi27wzhj37h6udiqyncu33wfkzgojfrijndvq\"},\"key\":\"com.example.note/5\",\"value\":{\"text\":\"five\"}}\n";
 
-/// What is told of the last record, which the file lacks.
+/// The error message for the last record, which the file lacks.
 const LAST_TOLD: &[u8] =
     b"com.example.note/a%20b%0A%25%7F%C3%A9: missing bafyreibnaz72nhjedu24vimmgm3cvydho4qpwxod7ikmlqwhu4rz6a4yfu dag-cbor\n";
 
-/// What is told of a record that is no DAG-CBOR.
+/// The error message for a record that is not DAG-CBOR.
 const RAW_TOLD: &[u8] =
     b"com.example.note/raw: bafkreicl6ujc6ncfktctxxroxognfn7d2fqavvrryoc2lv6m4i6hpbkfti is raw, not dag-cbor\n";
 

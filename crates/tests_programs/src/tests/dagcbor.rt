@@ -1,4 +1,4 @@
-//! The lines, words and faults of `dagcbor`.
+//! The lines, arguments and faults of `dagcbor`.
 
 use crate::tests::dagcar::owned_words;
 use dagcbor_lines::{run_check, run_command, run_links};
@@ -12,7 +12,7 @@ const LINES: &[u8] = b"1817\nzz\n\nF6\n63616263\r\nF5\n420102";
 const ANSWERS: &[u8] =
     b"refused NonMinimal\nrefused hex\nrefused Eof\nok null\nok string\nok bool\nok bytes\n";
 
-/// Fails where the lines, so many bytes of which come at once, are answered otherwise.
+/// Fails if the lines, read in pieces of `size` bytes, are answered otherwise.
 fn is_answered(alloc: Global, size: usize) -> Result<(), Fail> {
     let mut stingy = StingySink::new(alloc, 1000, None);
     let mut input = FaultySource::new(LINES, size, 0, ErrorKind::Other);
@@ -20,7 +20,7 @@ fn is_answered(alloc: Global, size: usize) -> Result<(), Fail> {
     agree((size, stingy.held()), (size, ANSWERS))
 }
 
-/// Fails where `check` answers the lines otherwise.
+/// Fails if `check` answers the lines otherwise.
 fn checks(alloc: Global, lines: &[u8], answers: &[u8]) -> Result<(), Fail> {
     let mut output = Vec::new(alloc);
     let mut input = lines;
@@ -31,7 +31,7 @@ fn checks(alloc: Global, lines: &[u8], answers: &[u8]) -> Result<(), Fail> {
 #[test]
 fn answers_each_line(rt: HostRuntime) -> Result<(), Fail> {
     checks(rt.alloc(), LINES, ANSWERS)?;
-    // The fills cut the lines at each of their bytes.
+    // The pieces cut the lines at each of their bytes.
     for size in 1..LINES.len() {
         is_answered(rt.alloc(), size)?;
     }
@@ -59,7 +59,7 @@ fn links_of_each_line(rt: HostRuntime) -> Result<(), Fail> {
 
 const USED: &[u8] = b"usage: dagcbor check|links\n";
 
-/// Words, the status of a run of them over a line, and what it writes and tells.
+/// Arguments, the status of a run of them over a line, and its output and error messages.
 const WORDS: &[(&[&str], u8, &[u8], &[u8])] = &[
     (&["check"], 0, b"ok integer\n", b""),
     (&["links"], 0, b"none\n", b""),
@@ -85,7 +85,7 @@ fn words_pick_the_command(rt: HostRuntime) -> Result<(), Fail> {
     Ok(())
 }
 
-/// A fault in telling it is not told.
+/// A fault in writing the error message is not reported.
 #[test]
 fn a_fault_in_telling_is_not_told(rt: HostRuntime) -> Result<(), Fail> {
     let alloc = rt.alloc();

@@ -1,4 +1,5 @@
-//! `at` over a file with an index, which is made here: each row is answered as over a file without.
+//! `at` over a file with an index, which is made here: each row has the same answer as over a file
+//! without one.
 
 use crate::tests::dagcar::owned_words;
 use crate::tests::found::Row;
@@ -8,10 +9,10 @@ use std::alloc::Global;
 use std::test::Fail;
 use tests_shared::agree;
 
-/// What is told where the index does not lead to a block on the way.
+/// The message if the index does not lead to a block on the way.
 const NO_ENTRY: &[u8] = b"dagcar: the index has no right entry of a block on the way\n";
 
-/// The file with an index of its sections.
+/// Returns the file with an index of its sections.
 fn indexed(alloc: Global) -> Result<Vec<u8>, Fail> {
     let (mut output, mut errors) = (Vec::new(alloc), Vec::new(alloc));
     let status = run_index(alloc, &FILE, &mut output, &mut errors);
@@ -19,7 +20,8 @@ fn indexed(alloc: Global) -> Result<Vec<u8>, Fail> {
     Ok(output)
 }
 
-/// Fails where the words of the row give anything else of the file, or tell more than this beside it.
+/// Fails if the arguments of the row give anything else for the file, or any other additional
+/// message.
 fn answers(alloc: Global, file: &[u8], row: &Row, more: &[u8]) -> Result<(), Fail> {
     let (word, name, status, wanted, line) = *row;
     let args = owned_words(alloc, &[word, name])?;
@@ -55,8 +57,8 @@ fn paths_lead_over_the_blocks_of_an_index(rt: HostRuntime) -> Result<(), Fail> {
     Ok(())
 }
 
-/// The index is cut off, so that it leads to no block: the file is read, and a line tells of the index
-/// where the path leads to an item.
+/// The index is cut off, so it leads to no block. The file is read instead, and a message mentions
+/// the index if the path leads to an item.
 #[test]
 fn paths_lead_past_an_index(rt: HostRuntime) -> Result<(), Fail> {
     let alloc = rt.alloc();

@@ -1,4 +1,4 @@
-//! `inspect`: what files hold, in numbers. The expected lines are made by another program.
+//! `inspect`: the contents of files, in numbers. The expected lines are made by another program.
 
 use crate::tests::dagcar::{GOOD, MIXED, owned_words};
 use dagcar_lines::run_inspect;
@@ -19,15 +19,15 @@ const MIXED_LINES: &[u8] =
 const MIXED_JSON: &[u8] =
     b"{\"version\":1,\"index\":\"no\",\"roots\":[{\"cid\":\"bafyreif3oxt7myu3uldnqjfs34ziq4w4lxhqgshgwuho22hby6qa4wym4e\",\"there\":true}],\"sections\":5,\"repeated\":0,\"bytes\":139,\"least\":1,\"greatest\":124,\"codecs\":[{\"codec\":\"raw\",\"sections\":2,\"bytes\":4},{\"codec\":\"dag-cbor\",\"sections\":3,\"bytes\":135}],\"hashes\":[{\"hash\":\"0x12\",\"sections\":4,\"bytes\":138},{\"hash\":\"0x13\",\"sections\":1,\"bytes\":1}],\"missing\":1}\n";
 
-/// The header of version 2 before the first file, which says that an index stands at byte 77.
+/// The header of version 2 before the first file, which says that an index begins at byte 77.
 const VERSION_2: &[u8] =
     b"\x0a\xa1\x67\x76\x65\x72\x73\x69\x6f\x6e\x02\x00\x01\x02\x03\x04\x05\x06\x07\x08\x09\x0a\x0b\x0c\x0d\x0e\x0f\x38\x00\x00\x00\x00\x00\x00\x00\xdb\x00\x00\x00\x00\x00\x00\x00\x4d\x00\x00\x00\x00\x00\x00\x00\x00\x00\x00\x00\x00";
 
-/// What is told of that file after the word for the index.
+/// The output for that file after the word for the index.
 const VERSION_2_REST: &[u8] =
     b"\nroots 1\nroot bafyreic6rlmkazpohhul74xyu654gs4k37idb2uz6r7vurebasdi766kga there\nsections 3\nrepeated 0\nbytes 49\nleast 3\ngreatest 42\ncodec raw 1 3\ncodec dag-cbor 2 46\nhash 0x12 3 49\nmissing 0\n";
 
-/// What a file gives: its status, and what is written and told.
+/// Fails if a file gives another status, output or error message.
 fn inspects(
     alloc: Global,
     form: Form,
@@ -92,7 +92,7 @@ fn nothing_is_written_of_what_is_no_file(rt: HostRuntime) -> Result<(), Fail> {
     )
 }
 
-/// Fails where the words ask for something else.
+/// Fails if the arguments ask for anything else.
 fn asks(alloc: Global, words: &[&str], wanted: Option<(Form, Option<&str>)>) -> Result<(), Fail> {
     let args = owned_words(alloc, words)?;
     match (inspection_of(&args), wanted) {

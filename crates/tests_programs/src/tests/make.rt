@@ -1,10 +1,10 @@
-//! `make`: blocks of DAG-JSON. The expected bytes are made by another program.
+//! `make`: blocks from DAG-JSON. The expected bytes are made by another program.
 
 use crate::tests::dagcar::{gives, run_word};
 use std::test::Fail;
 use tests_shared::agree;
 
-/// Texts that are none, and what is told of them.
+/// Texts that are not DAG-JSON, and the error messages for them.
 const REFUSED: &[(&[u8], &str)] = &[
     (b"\"\xff\"", "refused NoText 1\n"),
     (b"", "refused NoJson 0\n"),
@@ -56,10 +56,10 @@ fn other_texts_are_refused(rt: HostRuntime) -> Result<(), Fail> {
     Ok(())
 }
 
-/// What is told of data that looks like a link.
+/// The error message for data that looks like a link.
 const LOOKS: &[u8] = b"dagcar: a map with the key / looks like a link or like bytes\n";
 
-/// Blocks of such data, and of other data, and what is told of them.
+/// Blocks of such data and of other data, with their output and error messages.
 const SHOWN: &[(&[u8], &[u8], &[u8])] = &[
     (b"\xa1\x61/\x01", b"{\"/\":1}\n", LOOKS),
     (

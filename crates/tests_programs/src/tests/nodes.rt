@@ -1,13 +1,15 @@
-//! Rows of `at`, `at --raw`, `prove` and `show` of nodes of DAG-PB. The file and what is wanted are of a
-//! walk over the data model as the specification of DAG-PB has it, which was written apart, in Python.
+//! Rows of `at`, `at --raw`, `prove` and `show` for nodes of DAG-PB. The file and the expected
+//! answers come from a separate program in Python, which walks over the data model of the DAG-PB
+//! specification.
 
 use crate::tests::dagcar::gives;
 use crate::tests::proofs::{Part, answer, on_path};
 use std::alloc::Global;
 use std::test::Fail;
 
-/// A file of a node, of a block that it links to and of a node that this links to; of that node under its
-/// name of version 0; of a node with a name that is not UTF-8; and of no node, and of other bytes.
+/// A file of a node, a block that it links to, and a node that this links to; of that node under
+/// its CID of version 0; of a node with a name that is not UTF-8; of bytes that are not a node; and
+/// of bytes that do not match their CID.
 const FILE: &[u8] =
     b"\x3a\xa2\x65\x72\x6f\x6f\x74\x73\x81\xd8\x2a\x58\x25\x00\x01\x70\x12\x20\x8c\x6f\x2e\x93\x25\
     \xcc\x02\x01\x52\x3d\x54\x03\xc1\xc7\x95\x06\x11\xa2\x3a\x70\xb2\x28\xe6\xbc\x84\xd2\xcd\x5c\
@@ -51,8 +53,8 @@ const INNER: Part = (419, 460);
 
 const OLD: Part = (460, 499);
 
-/// A path; the status; its data, its bytes, and what is told; and the sections on its way, where it proves
-/// something.
+/// A path; the status; its data, its bytes, and the error message; and the sections on its way, if
+/// it proves something.
 type Row = (
     &'static str,
     u8,
@@ -207,7 +209,7 @@ const ROWS: &[Row] = &[
     ),
 ];
 
-/// The header of `FILE`, and these of its sections.
+/// Returns the header of `FILE`, and these of its sections.
 fn proof_of(alloc: Global, sections: &[Part]) -> Result<Vec<u8>, Fail> {
     let mut file = Vec::new(alloc);
     for part in [&[HEADER], sections] {
@@ -221,7 +223,7 @@ fn proof_of(alloc: Global, sections: &[Part]) -> Result<Vec<u8>, Fail> {
     Ok(file)
 }
 
-/// Fails where anything else is said of the path.
+/// Fails if the path gives anything else.
 fn leads(alloc: Global, row: &Row) -> Result<(), Fail> {
     let (path, status, data, item, told, sections) = *row;
     let word = on_path(alloc, ROOT, path)?;
@@ -243,7 +245,7 @@ fn paths_lead_into_nodes(rt: HostRuntime) -> Result<(), Fail> {
     Ok(())
 }
 
-/// Bytes; the status, the data, and what is told.
+/// Bytes; the status, the data, and the error message.
 const SHOWN: &[(&[u8], u8, &[u8], &[u8])] = &[
     (
         b"\x0a\x02\x68\x69",
@@ -257,9 +259,9 @@ const SHOWN: &[(&[u8], u8, &[u8], &[u8])] = &[
         b"{\"Links\":[{\"Hash\":{\"/\":\"QmNnqpGdvgQayTy9CvUhD2BvDVUixoGjdPJxxKroeoPDTR\"},\"Name\":\"a\",\"Tsize\":1}]}\n",
         b"",
     ),
-    // Of DAG-CBOR, an integer.
+    // An integer in DAG-CBOR.
     (b"\x0a", 0, b"10\n", b""),
-    // Two blocks, which are no node, and a node with a name that is not UTF-8.
+    // Two blocks, which are not a node, and a node with a name that is not UTF-8.
     (
         b"\x08\x01",
         1,

@@ -1,10 +1,11 @@
-//! Rows of `dagcar at`, of a walk over decoded blocks that was written apart, in Python, texts and all.
+//! Rows of `dagcar at`. The answers and their texts come from a separate program in Python, which
+//! walks over decoded blocks.
 
 use crate::tests::found::{Row, gives};
 use std::test::Fail;
 
-/// A file of a root, of three blocks that its links lead to, of a raw block, and of other bytes under a
-/// name.
+/// A file of a root, of three blocks that its links lead to, of a raw block, and of bytes that do
+/// not match their CID.
 pub const FILE: &[u8] =
     b"\x3a\xa2\x65\x72\x6f\x6f\x74\x73\x81\xd8\x2a\x58\x25\x00\x01\x71\x12\x20\xec\x31\x39\x0b\
     \x86\xc4\x20\x7a\x72\x57\x7b\x15\xa3\xe8\xfc\x57\x15\xda\x4f\xcc\x3c\x66\x0c\xc8\x6e\xd2\

@@ -1,5 +1,5 @@
-//! Rows of `dagcar prove` and `dagcar at --raw`: which sections of the file a walk over decoded blocks
-//! passes that was written apart, in Python, and which bytes it finds.
+//! Rows of `dagcar prove` and `dagcar at --raw`. A separate program in Python, which walks over
+//! decoded blocks, found the sections of the file on the way and the bytes of the item.
 
 use crate::tests::dagcar::run_words;
 use crate::tests::paths::FILE;
@@ -9,7 +9,7 @@ use tests_shared::agree;
 
 const ROOT: &str = "bafyreihmge4qxbweeb5hev33cwr6r7cxcxne7tb4mygmq3wsduicvzrusa";
 
-/// Where a part of `FILE` begins and ends: its header, and its sections but the last two.
+/// Where a part of `FILE` begins and ends: its header, and all its sections but the last two.
 pub type Part = (usize, usize);
 
 const HEADER: Part = (0, 59);
@@ -23,7 +23,7 @@ const LEAF: Part = (428, 473);
 /// A block that is a link.
 const ONLY: Part = (473, 551);
 
-/// A path; the status, the sections on the way, and what is told.
+/// A path; the status, the sections on the way, and the error message.
 const PROOFS: &[(&str, u8, &[Part], &[u8])] = &[
     ("", 0, &[TOP], b""),
     ("a", 0, &[TOP], b""),
@@ -78,7 +78,7 @@ const PROOFS: &[(&str, u8, &[Part], &[u8])] = &[
     ),
 ];
 
-/// A path; the status, the bytes of the item, and what is told.
+/// A path; the status, the bytes of the item, and the error message.
 const ITEMS: &[(&str, u8, &[u8], &[u8])] = &[
     (
         "a",
@@ -176,7 +176,7 @@ const ITEMS: &[(&str, u8, &[u8], &[u8])] = &[
     ),
 ];
 
-/// The word, with the root before the path.
+/// Returns the argument for a root and a path.
 pub fn on_path(alloc: Global, root: &str, path: &str) -> Result<String, Fail> {
     let mut word = String::from_str(alloc, root)?;
     word.push_str("/")?;
@@ -184,7 +184,7 @@ pub fn on_path(alloc: Global, root: &str, path: &str) -> Result<String, Fail> {
     Ok(word)
 }
 
-/// Fails where the words give anything else over the file.
+/// Fails if the arguments give anything else for the file.
 pub fn answer(
     alloc: Global,
     words: &[&str],
@@ -197,7 +197,7 @@ pub fn answer(
     agree((status, output.as_slice(), errors.as_slice()), wanted)
 }
 
-/// The part of `FILE`.
+/// Returns the part of `FILE`.
 fn part_of(part: Part) -> Result<&'static [u8], Fail> {
     match FILE.get(part.0..part.1) {
         Some(bytes) => Ok(bytes),
@@ -205,7 +205,7 @@ fn part_of(part: Part) -> Result<&'static [u8], Fail> {
     }
 }
 
-/// The header of `FILE`, and these of its sections.
+/// Returns the header of `FILE`, and these of its sections.
 fn file_of(alloc: Global, sections: &[Part]) -> Result<Vec<u8>, Fail> {
     let mut file = part_of(HEADER)?.to_vec(alloc)?;
     for section in sections {
@@ -233,7 +233,7 @@ fn items_are_written_as_they_are(rt: HostRuntime) -> Result<(), Fail> {
         let word = on_path(alloc, ROOT, path)?;
         answer(alloc, &["at", "--raw", &word], FILE, (*status, item, told))?;
     }
-    // The whole block of the root, after its length and its name.
+    // The whole block of the root, after its length and its CID.
     let block = part_of((59 + 38, 326))?;
     answer(alloc, &["at", "--raw", ROOT], FILE, (0, block, b""))
 }

@@ -1,5 +1,5 @@
-//! `split`: files of the parts of a file. Where its sections end, and which of them a part has, another
-//! program found: the header is 59 bytes, and the sections end at 179, 220, 260, 308 and 349.
+//! `split`: files of the parts of a file. Another program found where its sections end, and which
+//! of them a part has: the header is 59 bytes, and the sections end at 179, 220, 260, 308 and 349.
 
 ghost use Rattle.std.specs.Prelude.{None};
 
@@ -12,17 +12,17 @@ use std::alloc::Global;
 use std::test::Fail;
 use tests_shared::agree;
 
-/// How long the header of the file is.
+/// The length of the file's header, in bytes.
 const HEADER: usize = 59;
 
-/// How long the header of `RAW_ROOTED` is.
+/// The length of the header of `RAW_ROOTED`, in bytes.
 const ROOTED: usize = 100;
 
-/// The names and the bytes of files that are whole, one after the other.
+/// The names and bytes of complete files, in order.
 #[derive(Drop)]
 struct MemoryFiles<'a> {
     alloc: Global,
-    /// The name of a file that is there.
+    /// The name of a file that exists already.
     taken: &'a str,
     whole: Vec<u8>,
 }
@@ -48,7 +48,7 @@ impl NewFiles for MemoryFiles<'_> {
     }
 }
 
-/// The files of these names, each of the header and of the bytes between two places.
+/// Returns the files of these names, each with the header and the bytes between two offsets.
 fn files_of(alloc: Global, header: &[u8], parts: &[(&str, usize, usize)]) -> Result<Vec<u8>, Fail> {
     let mut files = Vec::new(alloc);
     for (name, from, to) in parts {
@@ -59,7 +59,7 @@ fn files_of(alloc: Global, header: &[u8], parts: &[(&str, usize, usize)]) -> Res
     Ok(files)
 }
 
-/// Fails where a split of the bytes, beside a file of this name, gives something else.
+/// Fails if a split of the bytes gives anything else, where a file of this name exists.
 fn splits(
     alloc: Global,
     words: &[&str],
@@ -82,7 +82,7 @@ fn splits(
     agree((status, files.whole.as_slice(), errors.as_slice()), wanted)
 }
 
-/// Fails where a split of the file into parts of this size gives others.
+/// Fails if a split of the file into parts of this size gives other parts.
 fn splits_so(alloc: Global, size: &str, parts: &[(&str, usize, usize)]) -> Result<(), Fail> {
     let words = ["split", "--size", size, "FILE", "p"];
     let wanted = files_of(alloc, &FILE[..HEADER], parts)?;
@@ -176,7 +176,7 @@ fn no_file_is_written_over(rt: HostRuntime) -> Result<(), Fail> {
     )
 }
 
-/// Fails where the words ask for a split.
+/// Fails if the arguments ask for a split.
 fn asks_nothing(alloc: Global, words: &[&str]) -> Result<(), Fail> {
     agree(
         split_of(alloc, &owned_words(alloc, words)?)?.is_none(),

@@ -1,5 +1,5 @@
-//! Calls of a `Serializer` and of its collectors that no type of the library and none by hand
-//! makes, and what they tell of their state.
+//! Calls of a `Serializer` and of its collectors that neither the library's types nor those by hand
+//! make, and the state that they show.
 
 use crate::tests::maps::{Ended, LARGE, is_ended};
 use dagcbor_core::EncodeError;
@@ -10,10 +10,10 @@ use std::convert::Infallible;
 use std::test::Fail;
 use tests_shared::agree;
 
-/// What calls are answered.
+/// The answer of calls.
 type Answer = Result<(), EncodeError<Infallible>>;
 
-/// A refusal where something is not so.
+/// Returns a refusal if this is false.
 fn holds(is_so: bool) -> Answer {
     if is_so {
         return Ok(());
@@ -67,7 +67,7 @@ fn an_announced_list(alloc: Global, ser: &mut Serializer<BufWriter>) -> Answer {
     holds(left == Some(1) && last == Some(0))
 }
 
-/// Calls one after another.
+/// A sequence of calls.
 enum Calls {
     Structs,
     Map,

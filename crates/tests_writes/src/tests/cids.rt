@@ -1,11 +1,11 @@
-//! CIDs, their parts, and what is none.
+//! CIDs, their parts, and bytes that are not CIDs.
 
 use ipld_tree::{Cid, CidError};
 use std::alloc::Global;
 use std::test::Fail;
 use tests_shared::{agree, is_told};
 
-/// The link's CID of the SHA-256 of "foo".
+/// The CID of the SHA-256 of "foo", in a link.
 const FOO: &[u8] =
     b"\x01\x55\x12\x20\x2c\x26\xb4\x6b\x68\xff\xc6\x8f\xf9\x9b\x45\x3c\x1d\x30\x41\x34\x13\x42\x2d\x70\x64\x83\xbf\xa0\xf9\x8a\x5e\x88\x62\x66\xe7\xae";
 
@@ -13,7 +13,7 @@ const FOO: &[u8] =
 const NODE: &[u8] =
     b"\x12\x20\x11\x11\x11\x11\x11\x11\x11\x11\x11\x11\x11\x11\x11\x11\x11\x11\x11\x11\x11\x11\x11\x11\x11\x11\x11\x11\x11\x11\x11\x11\x11\x11";
 
-/// Bytes that are no CID, and why.
+/// Bytes that are not a CID, and why.
 const NO_CIDS: &[(&[u8], &str)] = &[
     (b"", "Err(Truncated)"),
     (b"\x02", "Err(InvalidVersion)"),
@@ -23,7 +23,7 @@ const NO_CIDS: &[(&[u8], &str)] = &[
     (b"\x01\x55\x00\x00\x00", "Err(TrailingBytes)"),
 ];
 
-/// Fails where the bytes are a CID, or none for another reason.
+/// Fails if the bytes are a CID, or are refused for another reason.
 fn is_no_cid(alloc: Global, bytes: &[u8], told: &str) -> Result<(), Fail> {
     is_told(alloc, &Cid::try_from(bytes), told)
 }
@@ -38,8 +38,8 @@ fn refuses_bytes_that_are_no_cid(rt: HostRuntime) -> Result<(), Fail> {
     agree(text.as_str(), "the CID is cut short")
 }
 
-/// Fails where the bytes have other parts: the version, the codec and the hash function, and the
-/// digest; or where their CID is written otherwise.
+/// Fails if the bytes have other parts: the version, the codec and the hash function, and the
+/// digest. Fails also if their CID is written otherwise.
 fn has_parts(
     alloc: Global,
     bytes: &[u8],
@@ -57,7 +57,7 @@ const CIDS: &[(&[u8], (u64, u64, u64), usize)] = &[
     (FOO, (1, 0x55, 0x12), 4),
     (NODE, (0, 0x70, 0x12), 2),
     (b"\x01\x55\x00\x00", (1, 0x55, 0), 4),
-    // Fields of two bytes.
+    // Fields of two bytes each.
     (b"\x01\xce\x01\x9b\x01\x02\x63\xc8", (1, 206, 155), 6),
 ];
 

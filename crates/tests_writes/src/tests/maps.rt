@@ -1,4 +1,4 @@
-//! Maps whose keys come in any order, or are not what they must be, written.
+//! Written maps whose keys come in any order, or are not valid.
 
 use dagcbor_core::EncodeError;
 use dagcbor_heads::BufWriter;
@@ -8,13 +8,13 @@ use std::convert::Infallible;
 use std::test::Fail;
 use tests_shared::{agree, is_told, joined};
 
-/// Without a spelling.
+/// A number that cannot be encoded.
 pub(crate) const LARGE: u128 = 18_446_744_073_709_551_616;
 
-/// What a map is answered at its end, and what is written of it.
+/// The answer at the end of a map, and what is written of it.
 pub(crate) type Ended = (Result<(), EncodeError<Infallible>>, Vec<u8>);
 
-/// A map of these entries.
+/// Writes a map of these entries.
 fn map_of_entries(
     alloc: Global,
     len: Option<usize>,
@@ -35,7 +35,7 @@ fn map_of_entries(
     Ok((answer, ser.into_inner().into_inner()))
 }
 
-/// Fails where a map is answered or written otherwise.
+/// Fails if a map is answered or written otherwise.
 pub(crate) fn is_ended(
     alloc: Global,
     map: Result<Ended, EncodeError<Infallible>>,
@@ -47,8 +47,7 @@ pub(crate) fn is_ended(
     agree(written.as_slice(), spelling)
 }
 
-/// The number of entries, where it is announced; the entries; what the map is answered; and what is
-/// written.
+/// The number of entries, if it is announced; the entries; the answer; and the written bytes.
 const MAPS: &[(Option<usize>, &[(&str, u8)], &str, &[u8])] = &[
     (
         None,

@@ -1,4 +1,4 @@
-//! Values of the types of the library, written.
+//! Written values of the library's types.
 
 use dagcbor_write::Serialize;
 use ipld_tree::{ByteSlice, Bytes, Cid, Ipld};
@@ -11,7 +11,7 @@ use tests_shared::{is_unwritten, writes};
 const NUMBERS: &[u8] =
     b"\x84\x84\x17\x19\xff\xff\x1a\x00\x01\x00\x00\x1b\xff\xff\xff\xff\xff\xff\xff\xff\x84\x1a\x00\xbc\x61\x4e\x00\x18\x18\x39\x01\x2b\x84\x3a\x01\x67\x9e\x7c\x3b\x7f\xff\xff\xff\xff\xff\xff\xff\x39\x01\x00\x3b\xff\xff\xff\xff\xff\xff\xff\xff\x84\x1a\x05\xe2\xbe\x12\x39\x07\xde\x3b\xa5\xf7\x02\xb3\xa5\xf7\x02\xb3\x20";
 
-/// Leaves, texts and bytes, what refers or may be absent, and lists.
+/// Leaves, texts and bytes, references and optional values, and lists.
 const OTHERS: &[u8] =
     b"\x84\x84\xf5\xf6\x61\x00\x64\xf0\x9f\x92\x94\x84\x66foobar\x62\xc3\xa9\x42\xaf\xfe\x46foobar\x84\x07\x07\xf6\x18\x2a\x84\x83\x01\x02\x03\x83\x01\x02\x03\x82\x81\x01\x82\x01\x61a\x83\x01\x20\xf4";
 
@@ -54,7 +54,7 @@ fn byte_string(alloc: Global, bytes: &[u8]) -> Result<Bytes, AllocError> {
     Ok(Bytes(Vec::from_slice(alloc, bytes)?))
 }
 
-/// The map from "b" to 1 and from "aa" to 2, whichever comes first.
+/// Returns the map from "b" to 1 and from "aa" to 2, whichever is inserted first.
 fn hashed(alloc: Global, keys: [&str; 2]) -> Result<HashMap<String, u8>, AllocError> {
     let mut map = HashMap::new(alloc);
     for key in keys {
@@ -63,7 +63,7 @@ fn hashed(alloc: Global, keys: [&str; 2]) -> Result<HashMap<String, u8>, AllocEr
     Ok(map)
 }
 
-/// The map from this key to zero.
+/// Returns the map from this key to zero.
 fn under_key<K: Ord + Drop>(alloc: Global, key: K) -> Result<BTreeMap<K, u8>, AllocError> {
     let mut map = BTreeMap::new(alloc);
     drop(map.insert(key, 0u8)?);
@@ -79,7 +79,7 @@ fn maps_are_written_in_key_order(rt: HostRuntime) -> Result<(), Fail> {
     writes(alloc, &hashed(alloc, ["aa", "b"])?, spelling)
 }
 
-/// Fails where a key is taken for a text.
+/// Fails if a key is accepted as a text.
 fn is_no_text<K: Serialize + Ord + Drop>(alloc: Global, key: K) -> Result<(), Fail> {
     is_unwritten(
         alloc,
@@ -101,7 +101,7 @@ fn keys_are_texts(rt: HostRuntime) -> Result<(), Fail> {
     is_no_text(alloc, Cid::new_v0([0; 32]))
 }
 
-/// The map from 'a' to a number without a spelling.
+/// Returns the map from 'a' to a number that cannot be encoded.
 fn large_value(alloc: Global) -> Result<BTreeMap<char, i128>, AllocError> {
     let mut map = BTreeMap::new(alloc);
     drop(map.insert('a', i128::MAX)?);

@@ -26,7 +26,7 @@ no_head_nowhere b none h =
     let is : b ≡ (32 * h.0 + f.0) ∷ (f.1 ++ h.2) = h.3.2 ∙ ap (λ x. x ++ h.2) f.3 in
     omega (arith, none, ap length is)
 
--- what a head that stands there says of its first byte and of what follows
+-- the first byte of a head at the front, and the bytes after it
 head_begins : (first : ℕ) (b behind : List ℕ) → b ≡ first ∷ behind → (h : BeginsWithHead b) → Begins first behind h.0 h.1 h.2
 head_begins first b behind e h = begins first behind h.0 h.1 h.2 h.3.1 (sym e ∙ h.3.2)
 

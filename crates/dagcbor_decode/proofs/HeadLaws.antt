@@ -1,4 +1,4 @@
--- A head is read as its argument, and what is read so is a head.
+-- A head is read as its argument, and what is read in this way is a head.
 use Rattle.std.proofs.Common.{◌≡◌, ◌⊎◌, inl, inr, ℕ, zero, suc, ◌+◌, ◌*◌, ◌/◌, ◌%◌, ◌^◌, ◌<◌, ◌≤◌, List, [], ◌∷◌, ◌++◌, length, take, drop, get_or, Bool, true, false, if◌then◌else◌, nat_lt, ◌==◌, refl, sym, ap, ap₂, ◌∙◌, subst, arith, lt-ltb, le-ltb, mod-eq_of_lt, length-append, take-append-drop, length-take}
 use Rattle.std.proofs.Math.Seq.{take-append_seam, drop-append_seam}
 use Rattle.std.proofs.lemmas.Bool.{ltb-false, cases_lt}

@@ -18,11 +18,11 @@ use Rattle.dagcbor_decode.proofs.Sound.{block_got}
 use Rattle.dagcbor_decode.proofs.Complete.{block_reads}
 use Rattle.dagcbor_decode.proofs.Seen.{Seen, IsEndWhy, IsEnd, Decides, local_any}
 
--- Bytes are decoded exactly where they are a block, as the product says it.
+-- Bytes decode to a tree if and only if they are a block of it.
 pub decodes_blocks : (b : List ℕ) (t : Tree) → AreBytes b → (decode b ≡ got t []) ↔ IsBlock b t
 decodes_blocks b t bytes = (λ e. let h = block_got b t [] bytes e in (h.0, h.1), λ h. block_reads b t h.0 h.1)
 
--- of a block the kind is answered
+-- the result for a block is the kind of its tree
 pub kind_judged : (b : List ℕ) (kind : Kind) → AreBytes b → Ok kind ≡ kind_told (decode b) → (t : Tree) × IsBlock b t × (kind ≡ kind_of t)
 kind_judged b kind bytes e = by (decode b) refl e
   where
@@ -56,13 +56,13 @@ same_refusal b e place (refused why left) k = ap Err (ap (why_in (λ p. p.0)) k)
 pub refused_for : {E : Type 0} (b : List ℕ) (e : DecodeError E) (place : ℕ) → IsRefusedAt b e place → IsRefusedFor b e
 refused_for b e place h = same_refusal b e place (decode b) h
 
--- nothing but missing bytes is told
+-- the refusal, if there is one, is for missing bytes
 abbrev pub IsSoFar : Decoded Tree → Type 0
 IsSoFar (got t rest) = ⊤
 IsSoFar (refused why left) = IsEndWhy why left
 
--- the bytes up to the place, whatever follows them, are refused for this, there; and of fewer of them
--- nothing but missing bytes is told
+-- the bytes up to the place, whatever follows them, are refused for this cause at this place; fewer
+-- of them are refused only for missing bytes
 abbrev pub StandsThere : List ℕ → Why → ℕ → Type 0
 StandsThere b why left = (s rest : List ℕ) × (b ≡ s ++ rest) × (length rest ≡ left)
     × ((x : List ℕ) → decode (s ++ x) ≡ refused why (length x))
@@ -111,6 +111,6 @@ parted b why left (got t (x ∷ rest)) h e =
       before_last h.0 x t h.2,
     )
 
--- A refusal is for missing bytes, or it stands where it is placed.
+-- A refusal is for missing bytes, or its cause is at its place.
 pub places : (b : List ℕ) (why : Why) (left : ℕ) → decode b ≡ refused why left → IsEndWhy why left ⊎ StandsThere b why left
 places b why left e = parted b why left (item_of 256 b) (local_any 256 b) e

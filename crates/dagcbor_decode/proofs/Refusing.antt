@@ -1,4 +1,4 @@
--- Where no front and no key is read, and what that says of the item.
+-- Bytes of which no front or key is read, and what that says of the item.
 use Rattle.std.proofs.Common.{◌≡◌, ◌≢◌, ◌⊎◌, inl, inr, ℕ, suc, zero, ◌/◌, ◌%◌, ◌==◌, ◌-◌, ◌<◌, ◌≤◌, List, [], ◌∷◌, length, Bool, true, false, if◌then◌else◌, Option, None, codes, refl, sym, ap, ◌∙◌, arith}
 use Rattle.std.proofs.lemmas.Bool.Decides.{eqb_tells}
 use Rattle.dagcbor_core.specs.Splits.{SplitsHead, BeginsWithHead}
@@ -16,7 +16,7 @@ use Rattle.dagcbor_decode.proofs.Sound.{key_got, leaf_got}
 use Rattle.dagcbor_decode.proofs.Absent.{parts_need}
 use Rattle.dagcbor_decode.proofs.Fronts.{no_front, head_opened}
 
--- what is read nowhere is refused
+-- bytes of which nothing is read are refused
 pub refused_unless : {A : Type 0} (q : Decoded A) → ((a : A) (rest : List ℕ) → ¬ (q ≡ got a rest)) → IsRefused q
 refused_unless (got a rest) none = none a rest refl
 refused_unless (refused why left) none = tt
@@ -80,7 +80,7 @@ leaf_need (list ts) a b = absurd (a refl)
 leaf_need (mapping es) a b = absurd (b refl)
 leaf_need _ a b = refl
 
--- of one list of bytes there is one head
+-- bytes begin with at most one head
 one_major : (m n m' n' : ℕ) (b c c' : List ℕ) → SplitsHead b m n c → SplitsHead b m' n' c' → m' ≡ m
 one_major m n m' n' b c c' h k = (head_unique m' n' m n c' c k.1 h.1 (sym k.2 ∙ h.2)).0
 

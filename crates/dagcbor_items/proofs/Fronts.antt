@@ -1,4 +1,4 @@
--- What the bytes at the front say of the tree that stands there.
+-- What the bytes at the front say of the tree there.
 use Rattle.std.proofs.lemmas.Bool.Decides.{eqb_tells}
 use Rattle.std.proofs.Common.{◌≡◌, inl, inr, ℕ, zero, suc, ◌+◌, ◌*◌, ◌/◌, ◌^◌, ◌<◌, ◌≤◌, List, ◌∷◌, ◌++◌, sym, ap, ◌∙◌, subst, arith, [], length, refl, length-append, Some, codes}
 use Rattle.dagcbor_core.specs.Head.{head}

@@ -91,7 +91,7 @@ module _ {V E : Type 0} (accepted : ℤ → Option V) (name : List ℕ) where
       → RefusesPlainly (HasFront (leaf (view_number accepted)) old) more old e new
   narrow_refused stands more old new e wider r = passed_on stands more old old new e (stays old) (some_number accepted) (λ x. x) (λ x. x) (λ b l. (b, l, wider e b)) r
 
--- the head of a number is read, of whatever size
+-- the head of a number of any size is read
 pub number_head_read : (kept : List ℕ) (n : ℤ) (b rest : List ℕ) → IsFront b (integer n) rest → (h : ℕ × ℕ) × (number_of h.0 h.1 ≡ n) × (h.0 ≤ 1) × (h.1 < 2 ^ 64) × (b ≡ head h.0 h.1 ++ rest)
 number_head_read kept (pos n) b rest f = ((0, n), refl, omega arith, f.spellable, f.is)
 number_head_read kept (negsuc n) b rest f = ((1, n), refl, omega arith, f.spellable, f.is)
@@ -105,7 +105,7 @@ number_outside E accepted name kept n b rest none named f = λ said k.
     refused_then {E = E} (head_at said 0 1 b) (λ h. in_range said (accepted (number_of h.0 h.1))) h.0 rest (CastOverflow kept) (head_stands said 0 1 h.0.0 h.0.1 b rest h.3 (omega arith) h.2 h.4)
     (none_there E said kept (accepted (number_of h.0.0 h.0.1)) rest (ap accepted h.1 ∙ none) (named_as k named))
 
--- no tag of a bignum begins a head of a number
+-- a head of a number does not begin with the tag of a bignum
 no_big : (kept : List ℕ) (b : List ℕ) → ((first : ℕ) (more : List ℕ) → b ≡ first ∷ more → (first ≡ 0xc2) ⊎ (first ≡ 0xc3) → ⊥) → big_head_at kept b ≡ head_at kept 0 1 b
 no_big kept [] other = refl
 no_big kept (first ∷ more) other = rw (differs 0xc2 (λ e. other first more refl (inl e)), differs 0xc3 (λ e. other first more refl (inr e))) refl
@@ -113,7 +113,7 @@ no_big kept (first ∷ more) other = rw (differs 0xc2 (λ e. other first more re
     differs : (n : ℕ) → (first ≡ n → ⊥) → (first == n) ≡ false
     differs n h = elim (eqb_tells first n) [ inl a ↦ absurd (h a.1) | inr a ↦ a.0 ]
 
--- where the head of a number stands, no such tag does
+-- if the head of a number is at the front, no such tag is
 pub big_head_stands : (kept : List ℕ) (m n : ℕ) (b rest : List ℕ) → n < 2 ^ 64 → m ≤ 1 → b ≡ head m n ++ rest → big_head_at kept b ≡ got (m, n) rest
 big_head_stands kept m n b rest fits few is = no_big kept b starts ∙ head_stands kept 0 1 m n b rest fits (omega arith) few is
   where

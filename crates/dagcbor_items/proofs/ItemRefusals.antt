@@ -70,7 +70,7 @@ text_item steps e first b more some is m h = part_refused (text_of (codes "strin
 
 -- ---- lists and maps
 
--- their heads, where two steps are left
+-- their heads, if two steps are left
 pub list_head : {E : Type 0} (steps : ℕ) (e : DecodeError E) (first : ℕ) (b more : List ℕ) → b ≡ first ∷ more → first / 32 ≡ 4 → IsRefusal (argument_of (codes "array") first more) e → ItemCause (suc (suc steps)) e b
 list_head steps e first b more is m h = by (is_31 (first % 32))
   where
@@ -144,7 +144,7 @@ behind_items (item t ts) (suc count) steps e b c f few need h =
     refused_then (item_of steps b) (λ t rest. after (items_of (item_of steps) count rest) λ ts. got (item t ts)) t _ e (any_reads steps b t _ o.0 (omega (arith, need)))
     (refused_after (items_of (item_of steps) count _) (λ ts. got (item t ts)) e (behind_items ts count steps e _ c o.1 (omega (arith, few)) (omega (arith, need)) h))
 
--- the last key, after a key that stands before them all
+-- the last key, after a key that comes before them all
 pub last_after : Option (List ℕ) → Entries → Option (List ℕ)
 last_after previous no_entries = previous
 last_after previous (entry k t es) = last_after (Some k) es

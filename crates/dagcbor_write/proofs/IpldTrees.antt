@@ -35,7 +35,7 @@ map_kind j m is sorted =
     ∙ ap (λ b. cond b None (Some (mapping (ordered_entries (pairs_of m.entries))))) (test_from_distinct (pairs_of m.entries) (distinct_entries m.entries sorted))
     ∙ ap Some (sym (tree_of_Map m) ∙ ap tree_of (sym is))
 
--- what is the spelling of a tree is that of the tree under another name
+-- the spelling of a tree is that of the same tree under another name
 pub Writes_tree : {T E : Type 0} (a : Option Tree) (t : Tree) (s u : Written) (r : Result T (EncodeError E)) → a ≡ Some t → Writes (spelled_tree a) s u r → Writes (spelled t) s u r
 Writes_tree {T} {E} a t s u r e w = let P : Option Tree → Type 0 = λ x. Writes (spelled_tree x) s u r in subst P e w
 
@@ -64,7 +64,7 @@ list_told {T} {E} j v r is h =
     let P : Tree → Type 0 = λ x. IfErr r (OnMessage (tree_message x)) in
     subst P (sym (ap tree_of is ∙ tree_of_List v)) (message_tells (IsMessageOfAny (λ x. Some (tree_of x)) (λ x. tree_message (tree_of x)) v.items) (items_message (items_of (map tree_of v.items))) r (items_told v.items) h)
 
--- a map's is that of a value
+-- the message of a map is that of a value
 pub map_told : {T E : Type 0} (j : Ipld) (es : BTreeMap (String Global) Ipld) (r : Result T (EncodeError E)) → j ≡ Map' es → IfErr r (IsMessage (codes "Struct value cannot be serialized.")) → IfErr r (OnMessage (tree_message (tree_of j)))
 map_told {T} {E} j es r is h = let P : Tree → Type 0 = λ x. IfErr r (OnMessage (tree_message x)) in subst P (sym (ap tree_of is ∙ tree_of_Map es)) h
 

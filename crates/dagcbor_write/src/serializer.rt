@@ -26,7 +26,7 @@ const INTEGER_RANGE: &str = "Integer must be within [-u64::MAX-1, u64::MAX] rang
 /// The message for an unsigned integer without a spelling.
 const UNSIGNED_RANGE: &str = "Unsigned integer must be within [0, u64::MAX] range";
 
-/// Writes values to a writer, which contracts see.
+/// A serializer, which writes values to a writer. Contracts see the writer.
 #[derive(Drop)]
 pub struct Serializer<W> {
     writer: W,

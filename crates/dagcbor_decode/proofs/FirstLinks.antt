@@ -72,7 +72,7 @@ links_answer f links e = ap linked f.decoded ∙ ap Ok (sym e)
 pub first_need : {b item : List ℕ} (bytes : AreBytes b) (f : IsFirstItem b item) → any_need f.tree ≤ 256
 first_need {b} bytes f = (any_got 256 b f.tree f.rest bytes f.decoded).1
 
--- ---- what is not answered
+-- ---- what is not returned
 
 not_linked : {E : Type 0} (decoded : Decoded Tree) (e : DecodeError E) (t : Tree) (rest : List ℕ) → AnswersLinks decoded (Err e) → (e ≡ OutOfMemory → ⊥) → decoded ≡ got t rest → ⊥
 not_linked decoded OutOfMemory t rest h other is = other refl

@@ -20,7 +20,7 @@ pub if_got : {A : Type 0} (c : Bool) (x y z : A) → (if c then x else y) ≡ z 
 if_got true x y z e = inl (refl, e)
 if_got false x y z e = inr (refl, e)
 
--- where it is either that or a refusal
+-- if it is either that or a refusal
 pub if_only : {A : Type 0} (c : Bool) (x y : Decoded A) (a : A) (rest : List ℕ) → ((¬ (y ≡ got a rest))) → (if c then x else y) ≡ got a rest → (c ≡ true) × (x ≡ got a rest)
 if_only true x y a rest n e = (refl, e)
 if_only false x y a rest n e = absurd (n e)

@@ -44,7 +44,7 @@ some_why : (q : Decoded Tree) → answer q ≡ Err None → ⊥
 some_why (got t rest) k = absurd (cc k)
 some_why (refused why left) k = absurd (cc k)
 
--- memory is no reason
+-- the result is not a refusal for memory
 pub no_memory : {E : Type 0} (b : List ℕ) (e : DecodeError E) → IsRefusedFor b e → e ≢ OutOfMemory
 no_memory b e h same = some_why (decode b) (h ∙ ap (λ x. Err (why_of x)) same)
 

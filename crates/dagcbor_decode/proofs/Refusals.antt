@@ -19,7 +19,7 @@ use Rattle.dagcbor_decode.specs.Decode.{Decoded, Why, got, refused, eof, unsuppo
 use Rattle.dagcbor_decode.specs.Verdicts.{IsRefusal, why_of}
 use Rattle.dagcbor_decode.proofs.HeadLaws.{payload_front}
 
--- ---- refusals of what goes on
+-- ---- refusals of what follows
 
 -- what is refused is refused, whatever was to follow
 pub refused_after : {A B E : Type 0} (r : Decoded A) (f : A → List ℕ → Decoded B) (e : DecodeError E) → IsRefusal r e → IsRefusal (after r f) e

@@ -21,7 +21,7 @@ pub refused_unless : {A : Type 0} (q : Decoded A) → ((a : A) (rest : List ℕ)
 refused_unless (got a rest) none = none a rest refl
 refused_unless (refused why left) none = tt
 
--- ---- what stands where a front is read
+-- ---- what is at the front if a front is read
 
 -- the head of a list or a map for which steps are left
 abbrev IsOpened : ℕ → List ℕ → Type 0
@@ -59,7 +59,7 @@ front_got (suc steps) (first ∷ b) rest r e =
 front_refused : (steps : ℕ) (b : List ℕ) → AreBytes b → ¬ IsWithin steps b → ¬ IsOpened steps b → IsRefused (front_of steps b)
 front_refused steps b r none no_part = refused_unless (front_of steps b) (λ u rest e. elim (front_got steps b rest r e) [ inl k ↦ none k | inr k ↦ no_part k ])
 
--- ---- where the judge splits off nothing
+-- ---- if the judge splits off nothing
 
 pub no_head_there : (steps : ℕ) (b : List ℕ) → AreBytes b → ¬ BeginsWithHead b → IsRefused (front_of steps b)
 no_head_there steps b r none = front_refused steps b r (λ k. no_front b k.1 k.0 none k.2) (λ k. none (k.0, k.1, k.2, k.3))

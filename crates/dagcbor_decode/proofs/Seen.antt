@@ -30,7 +30,7 @@ Seen read b (refused why behind) = IsEndWhy why behind ⊎ ((s rest : List ℕ) 
 abbrev pub Local : {A : Type 0} → (List ℕ → Decoded A) → Type 0
 Local read = (b : List ℕ) → Seen read b (read b)
 
--- ---- where nothing is seen
+-- ---- if nothing is seen
 
 at_once : {A : Type 0} (read : List ℕ → Decoded A) (answer : List ℕ → Decoded A) → ((x : List ℕ) → read x ≡ answer x) → Decides read [] answer
 at_once read answer h = record { same = h; less = λ j l. absurd (omega (arith, l)) }

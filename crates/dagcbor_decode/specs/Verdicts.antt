@@ -59,7 +59,7 @@ IsRefusedFor b e = answer (decode b) ≡ Err (why_of e)
 abbrev pub IsRefusedAt : {E : Type 0} → List ℕ → DecodeError E → ℕ → Type 0
 IsRefusedAt b e place = verdict b (decode b) ≡ Err (why_of e, place)
 
--- ---- what a call answers, in these words
+-- ---- what a call returns, in these words
 
 abbrev pub answered : {A E : Type 0} → Result A (DecodeError E) → Result A (Option Why)
 answered (Ok a) = Ok a

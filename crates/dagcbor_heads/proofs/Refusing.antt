@@ -14,7 +14,7 @@ pub record SameReader (old mid : Reading) : Type 0 where
   pub faults : mid.faults ≡ old.faults
   pub lends : mid.lends ≡ old.lends
 
--- A call that went on with a part, though steps were spent, refuses what the part refuses.
+-- A call that continued with a part, although steps were spent, refuses what the part refuses.
 pub refusal_carried : {E could could' lacks lacks' borrows borrows' : Type 0} (stands stands' : DecodeError E → List ℕ → Type 0) (old mid new : Reading) (e : DecodeError E)
     → SameReader old mid → (could' → could) → (lacks → lacks') → (borrows → borrows')
     → ((b : List ℕ) → old.left ≡ Some b → ((c : List ℕ) → mid.left ≡ Some c → stands e c) → stands' e b)

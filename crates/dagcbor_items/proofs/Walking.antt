@@ -49,7 +49,7 @@ no_links (mapping es) a b c = absurd (b refl)
 no_links (link cid) a b c = absurd (c refl)
 no_links _ a b c = refl
 
--- ---- want of memory
+-- ---- out of memory
 
 -- if a call may run out of memory after what was taken, it might have before
 pub lacks_before : {takes_memory : Bool} {old mid : Reading} → Stays old mid → LeavesRest old.left mid.left → WalkLacks takes_memory mid → WalkLacks takes_memory old

@@ -6,7 +6,7 @@ use Rattle.dagcbor_decode.specs.Decode.{Decoded, item_of, items_of, entries_of, 
 use Rattle.dagcbor_decode.specs.Verdicts.{IsRefusal}
 use Rattle.dagcbor_items.specs.Leaves.{head_at, string_at, text_at, char_at, number_at, big_head_at, big_number_at, byte_at, bool_at, link_at}
 
--- ---- items, with so many steps of depth
+-- ---- items, with this many steps of depth
 
 abbrev pub ItemCause : {E : Type 0} → ℕ → DecodeError E → List ℕ → Type 0
 ItemCause steps e b = IsRefusal (item_of steps b) e

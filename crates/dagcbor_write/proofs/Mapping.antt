@@ -97,7 +97,7 @@ pairs_named (p ∷ ps) (e ∷ es) h =
     let more = pairs_named ps es h.1 in
     (first.0 ∷ more.0, joins (pair_of p) (all_some (map pair_of ps)) first.0 more.0 first.1 more.1, (first.2, more.2))
 
--- ---- entries stand in the order of their bytes as the names do in key order
+-- ---- entries in the order of their bytes are in the key order of their names
 
 fits : (k s : List ℕ) → spelled (text k) ≡ Some s → (length k < 2 ^ 64) × (s ≡ text_spelling k)
 fits k s e = (spelled_is (text k) s).0 e

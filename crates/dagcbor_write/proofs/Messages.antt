@@ -71,7 +71,7 @@ module _ {T E : Type 0} where
       by (Msg m) w h = (i, x, inside, sym at, (w.0, h))
       by _ w h = tt
 
--- ---- a row of fields, where the writer is left as it was
+-- ---- a row of fields, if the writer is as it was
 
 module _ {T E : Type 0} (ps : List Pair) (r : Result T (EncodeError E)) where
   -- the exit of a `?` at the fields

@@ -21,7 +21,7 @@ no_message t h e = let differ : Some (spelling t) ≡ None = sym ((spelled_is t 
 pub head_is_spelled : (major n : ℕ) → n < 2 ^ 64 → spelled_head major n ≡ Some (head major n)
 head_is_spelled major n h = ap (λ b. cond b (Some (head major n)) None) (lt-ltb n (2 ^ 64) h)
 
--- ---- what is answered
+-- ---- what is returned
 
 -- a writer to memory that was empty holds the spelling
 abbrev in_memory : List ℕ → Written

@@ -144,7 +144,7 @@ RefusesKeys ps m = (m ≡ codes "Map keys must be unique") × RepeatsKey ps
 abbrev pub RefusesPairs : List Pair → List ℕ → Type 0
 RefusesPairs ps m = RefusesAnyValue ps m ⊎ (RefusesKeys ps m × ¬ LacksValue ps)
 
--- ---- a map that is at hand
+-- ---- a map in memory
 
 -- the pairs with null for each value, to speak of their keys alone
 abbrev pub keys_alone : List Pair → List Pair

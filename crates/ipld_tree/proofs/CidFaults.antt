@@ -93,7 +93,7 @@ two_forms : (b : List ℕ) → IsCid b → IsForm0 b ⊎ AtDigest b IsWhole
 two_forms b (c, inl v, e) = inl (c.digest, v.3, e ∙ form_0 c v.0)
 two_forms b (c, inr v, e) = inr (c.codec, c.hash_code, length c.digest, c.digest, cid_varints b c v e, (v.3, refl))
 
--- ---- what can't stand in the same bytes
+-- ---- faults that the same bytes cannot have
 
 not_form_0 : (b numbers rest : List ℕ) → HasVarints b numbers rest → IsForm0 b → ⊥
 not_form_0 b numbers rest h v = let clash = sym h.is ∙ v.2 in absurd (cc clash)

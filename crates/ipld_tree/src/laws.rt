@@ -30,7 +30,8 @@ pub fn cid_equality()
     ensures { CidEqualityIsOfBytes }
 {}
 
-/// Bytes have at most one fault, and a CID has none. Bytes that `Cid::try_from` refuses have one.
+/// Bytes have at most one fault, and a CID has no fault. Bytes that `Cid::try_from` refuses have
+/// one.
 pub fn cid_faults()
     ensures { CidFaultsAreUnique }
 {}

@@ -14,7 +14,7 @@ fn split_one(bytes: &[u8]) -> Option<(u64, &[u8])>
     Some((u64::from(*number), rest))
 }
 
-/// Returns the number that the bytes are in big-endian order.
+/// Returns the number whose big-endian bytes these are.
 #[inline(always)]
 #[tactic(auto, using(std::proofs::lemmas::Nat::be_bytes_2))]
 fn high_first_two(bytes: [u8; 2]) -> u16
@@ -32,7 +32,7 @@ fn split_two(bytes: &[u8]) -> Option<(u64, &[u8])>
     Some((u64::from(high_first_two(*front)), rest))
 }
 
-/// Returns the number that the bytes are in big-endian order.
+/// Returns the number whose big-endian bytes these are.
 #[inline(always)]
 #[tactic(auto, using(std::proofs::lemmas::Nat::be_bytes_4))]
 fn high_first_four(bytes: [u8; 4]) -> u32
@@ -50,7 +50,7 @@ fn split_four(bytes: &[u8]) -> Option<(u64, &[u8])>
     Some((u64::from(high_first_four(*front)), rest))
 }
 
-/// Returns the number that the bytes are in big-endian order.
+/// Returns the number whose big-endian bytes these are.
 #[inline(always)]
 fn high_first_eight(bytes: [u8; 8]) -> u64
     ensures { bytes_high_first 8 result ≡ bytes }

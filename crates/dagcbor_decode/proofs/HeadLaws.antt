@@ -62,7 +62,7 @@ number_got name first w width least n b rest e =
 
 -- ---- heads
 
--- a head is read, under whatever name
+-- a head is read, whatever the name
 pub record ReadsHead (major n : ℕ) (b rest : List ℕ) : Type 0 where
   pub first : ℕ
   pub more : List ℕ

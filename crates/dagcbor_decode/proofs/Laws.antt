@@ -44,7 +44,7 @@ some_why : (q : Decoded Tree) → answer q ≡ Err None → ⊥
 some_why (got t rest) k = absurd (cc k)
 some_why (refused why left) k = absurd (cc k)
 
--- the result is not a refusal for memory
+-- the refusal is not out of memory
 pub no_memory : {E : Type 0} (b : List ℕ) (e : DecodeError E) → IsRefusedFor b e → e ≢ OutOfMemory
 no_memory b e h same = some_why (decode b) (h ∙ ap (λ x. Err (why_of x)) same)
 
@@ -52,7 +52,7 @@ same_refusal : {E : Type 0} (b : List ℕ) (e : DecodeError E) (place : ℕ) (q 
 same_refusal b e place (got t rest) k = absurd (cc k)
 same_refusal b e place (refused why left) k = ap Err (ap (why_in (λ p. p.0)) k)
 
--- with its place it is refused for the same
+-- with its place, it is refused for the same cause
 pub refused_for : {E : Type 0} (b : List ℕ) (e : DecodeError E) (place : ℕ) → IsRefusedAt b e place → IsRefusedFor b e
 refused_for b e place h = same_refusal b e place (decode b) h
 
@@ -72,7 +72,7 @@ so_far : (q : Decoded Tree) → IsEnd q → IsSoFar (after q at_end)
 so_far (got t rest) c = absurd c
 so_far (refused w k) c = c
 
--- bytes before the one that is too many
+-- the bytes before the first surplus byte
 before_last : (s : List ℕ) (x : ℕ) (t : Tree) → Decides (item_of 256) s (got t) → (j : ℕ) → j < length (s ++ x ∷ []) → IsSoFar (decode (take j (s ++ x ∷ [])))
 before_last s x t d j l = elim (cases_lt j (length s)) [
   | inl few ↦ subst (λ z. IsSoFar (decode z)) (sym (take-append-le j s (x ∷ []) (omega (arith, few)))) (so_far (item_of 256 (take j s)) (d.less j few))

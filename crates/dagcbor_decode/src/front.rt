@@ -114,7 +114,7 @@ fn behind_simple(value: u64, bytes: &[u8]) -> Option<&[u8]>
     Some(bytes)
 }
 
-/// Returns the bytes after an item whose head was split off, if it is a leaf: not a list and not a
+/// Returns the bytes after an item whose head was split off, if it is a leaf: neither a list nor a
 /// map.
 #[inline(always)]
 pub fn behind_leaf(major: u8, argument: u64, more: &[u8]) -> Option<&[u8]>

@@ -66,7 +66,7 @@ pub fn next_link(items: &[u8]) -> Option<(Cid, &[u8])>
     None
 }
 
-/// Returns the links of items in a row. Refuses only if it is out of memory.
+/// Returns the links of items in a row. It is refused only if memory runs out.
 pub fn links_of_items(alloc: Global, items: &[u8]) -> Result<Vec<Cid>, AllocError>
     requires { (links : List (List ℕ)) × HoldsLinks items.now links }
     ensures links { (links : List (List ℕ)) → HoldsLinks items.now links

@@ -14,8 +14,8 @@ use crate::kind::{Kind, kind_of_front};
 use dagcbor_core::{DEFAULT_STEPS, DecodeError};
 use std::convert::Infallible;
 
-/// Why bytes are not a block, and where. Those before `place` alone are refused only for missing
-/// bytes; with the next byte comes the cause.
+/// Why bytes are not a block, and where. The bytes before `place`, taken alone, are refused only
+/// for missing bytes; the next byte brings the cause.
 #[derive(Debug, Drop)]
 pub struct Refused {
     pub cause: DecodeError<Infallible>,

@@ -137,7 +137,7 @@ fn argument_width(information: u8) -> u16
     }
 }
 
-/// Takes the next `width` bytes, and returns the big-endian number that they are.
+/// Takes the next `width` bytes, and returns their big-endian number.
 #[tactic(auto, using(crate::proofs::Looking::some_then, crate::proofs::Looking::once_left))]
 fn pull_argument<R: Read>(name: &str, reader: &mut R, width: u16) -> ReadResult<u64, R>
     requires { width ≤ 8 }

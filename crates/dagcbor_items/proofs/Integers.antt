@@ -32,7 +32,7 @@ use Rattle.dagcbor_items.specs.Majors.{HasMajor, TakesMajor}
 use Rattle.dagcbor_items.proofs.Fronts.{front_byte}
 use Rattle.dagcbor_items.proofs.HeadMajors.{has_major}
 
--- only a number shows one
+-- only a number shows a number
 is_number : {V : Type 0} (accepted : ℤ → Option V) (t : Tree) → is_some (view_number accepted t) ≡ true → (n : ℤ) × (t ≡ integer n)
 is_number accepted (integer n) a = (n, refl)
 is_number accepted _ a = absurd (cc a)
@@ -58,7 +58,7 @@ number_taken {old} {new} {kind} {n} h = record {
   same = h.takes.same;
 }
 
--- a number that was handed to a function
+-- a number that was passed to a function
 pub number_handed : {V : Type 0} (accepted : ℤ → Option V) (n : ℤ) (o : Option V) → SFits w128 n → o ≡ accepted (to_z w128 (of_z w128 n)) → accepted n ≡ o
 number_handed accepted n o fits e = ap accepted (sym (to_z-of_z w128 n fits)) ∙ sym e
 
@@ -141,7 +141,7 @@ outside E accepted stands {old} {new} n kept none cause h = (
   λ b l. let k = h.taken b l in cause b k.1 (subst (λ t. IsFront b t k.1) (all_numbers k.0 n k.3) k.2),
 )
 
--- not each number is accepted
+-- not every number is accepted
 module _ {V E : Type 0} (accepted : ℤ → Option V) (name : List ℕ) where
   pub number_not_read : (old new : Reading) (e : DecodeError E) → RefusesPlainly (HasFront (leaf (view_number Some)) old) (MajorCause name 0 1) old e new → RefusesPlainly (HasFront (leaf (view_number accepted)) old) (NumberCause name accepted) old e new
   number_not_read old new e r = narrow_refused accepted name (MajorCause name 0 1) (NumberCause name accepted) old new e (number_cause accepted name) r
@@ -180,7 +180,7 @@ natural_refused name bound old new e r = number_not_read (natural_below bound) n
 
 -- ---- numbers of any size
 
--- no byte
+-- a missing byte
 big_byte : {E : Type 0} (name : List ℕ) (e : DecodeError E) (b : List ℕ) → IsEndNamed name e → ByteCause e b → BigCause name e b
 big_byte {E} name (Eof n x) b named h = λ kept k. ended E kept name n x 1 (big_head_at kept b) 0 k named h.0 (ap (big_head_at kept) h.1)
 big_byte name _ b named h = absurd h
@@ -189,7 +189,7 @@ pub big_byte_refused : {E : Type 0} (name : List ℕ) (old new : Reading) (e : D
     → RefusesPlainly (HasFront (leaf (view_number Some)) old) (BigCause name) old e new
 big_byte_refused name old new e named r = passed_on ByteCause (BigCause name) old old new e (stays old) front_byte (λ x. x) (λ x. x) (λ b l. (b, l, big_byte name e b named)) r
 
--- a tag is no number
+-- a tag is not a number
 pub no_tag : (E : Type 0) (name : List ℕ) {old mid : Reading} {first : ℕ} (kept : Name) → Names kept name → ShowsByte old first mid → (first ≡ 0xc2) ⊎ (first ≡ 0xc3)
     → RefusesPlainly {E = E} (HasFront (leaf (view_number Some)) old) (BigCause name) old (Unsupported kept first) mid
 no_tag E name {old} {mid} {first} kept named h which = (

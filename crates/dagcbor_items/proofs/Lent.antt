@@ -1,4 +1,4 @@
--- What a slice has whole at its front, and is taken from there.
+-- What is whole at the front of a slice, and is taken from there.
 use Rattle.std.proofs.Common.{◌≡◌, ℕ, ◌+◌, ◌≤◌, ◌<◌, Bool, true, false, MatchBool, IsUtf8, List, ◌∷◌, ◌++◌, length, refl, sym, ap, ◌∙◌, subst, arith, length-append, append_assoc, zero-le, Option, Some}
 use Rattle.dagcbor_heads.specs.Reading.{Reading}
 use Rattle.dagcbor_heads.specs.Fronts.{Takes, TakesSome}
@@ -15,7 +15,7 @@ use Rattle.dagcbor_items.specs.TypedReads.{TakesFront}
 use Rattle.dagcbor_items.specs.Untyped.{TakesItem}
 use Rattle.dagcbor_items.proofs.Names.{name_front, name_long}
 
--- what a front leaves is no longer than all
+-- the bytes left after a front are not more than all
 pub front_within : {b rest : List ℕ} (t : Tree) → IsFront b t rest → length (spelling t) + length rest ≡ length b
 front_within {b} {rest} t f = sym (ap length f.is ∙ length-append (spelling t) rest)
 

@@ -7,7 +7,7 @@ use Rattle.dagcbor_items.specs.ItemsLeft.{items_left_of}
 abbrev IsFewer : ℕ → Bool → Option (List ℕ) → Type 0
 IsFewer n done left = IsFinite (items_left_of done left) × (size (items_left_of done left) < n)
 
--- of known bytes fewer are left
+-- if the bytes are known, fewer are left
 abbrev pub LeavesFewer : Option (List ℕ) → Option (List ℕ) → Type 0
 LeavesFewer old new = (b : List ℕ) → old ≡ Some b → (rest : List ℕ) × (new ≡ Some rest) × (length rest < length b)
 

@@ -100,7 +100,7 @@ row_some b rest (item t ts) h =
 
 -- ---- by heads
 
--- of what a head passes nothing is free but the head
+-- what a head passes, if it was split off
 abbrev pub IsPassed : (m n : ℕ) → List ℕ → (parts : ℕ) → List ℕ → Type 0
 IsPassed m n c parts rest = (parts ≡ part_count m n) × (IsTrue (is_string m) → n ≤ length c) × (rest ≡ (if is_string m then drop n c else c))
 

@@ -1,4 +1,4 @@
--- Going through items, their links handed to a sink.
+-- Walks through items, whose links are handed to a sink.
 use Rattle.std.proofs.Common.{◌≡◌, ◌≢◌, inl, inr, ℕ, zero, suc, ◌+◌, ◌-◌, ◌/◌, ◌<◌, ◌≤◌, List, [], ◌∷◌, ◌++◌, Bool, true, false, refl, sym, ap, ◌∙◌, subst, arith, append_assoc, append-nil, Option, None, Some, Result, Ok, Err}
 use Rattle.dagcbor_heads.specs.Reading.{Reading, SpentStep, Stays}
 use Rattle.dagcbor_heads.specs.Fronts.{StartsWith, ShowsByte, Takes, TakesHead}

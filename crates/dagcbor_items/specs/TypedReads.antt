@@ -26,8 +26,8 @@ pub record TakesFront {V : Type 0} (shape : Shape Tree V) (old : Reading) (v : V
   pub same : Stays old new
 
 -- A value is read if and only if a tree that the type accepts is at the front, within the steps
--- left. A refusal is out of memory only if `lacks`, for want of a loan only if `borrows`, and else
--- has its cause in the bytes.
+-- left. A refusal is `OutOfMemory` only if `lacks`, `RequireBorrowed` only if `borrows`, and
+-- otherwise a fault or a cause in the bytes.
 abbrev pub Reads : {T V E : Type 0} → (T → V) → Shape Tree V → Type 0 → Type 0
     → (DecodeError E → List ℕ → Type 0) → Reading → Result T (DecodeError E) → Reading → Type 0
 Reads meaning shape lacks borrows stands old result new = MatchResult result
@@ -52,8 +52,9 @@ NoStepIfDeep old _ = ⊤
 abbrev pub Anything : {E : Type 0} → DecodeError E → List ℕ → Type 0
 Anything e b = ⊤
 
--- A typed read is out of memory, or refused a loan, only if its shape says that reading may take
--- one; it is refused for any other cause only if what could be read is not there.
+-- A typed read is refused with `OutOfMemory` only if its shape may take memory, with
+-- `RequireBorrowed` only if it wants a loan, and for a cause in the bytes only if what it could
+-- read is not there.
 abbrev pub RefusesRead : {Data V E : Type 0} → (could : Type 0) → Shape Data V → Reading
     → DecodeError E → Reading → Type 0
 RefusesRead could shape old = Refuses (record {

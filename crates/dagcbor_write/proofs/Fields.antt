@@ -141,7 +141,7 @@ end_of (x ∷ xs) = ap (λ ys. x ∷ ys) (end_of xs)
 pub begin_entries : (whole : List Pair) (held : List Texts) → held ≡ [] → Given-but IsSpellingOf whole whole held
 begin_entries = begin_map IsSpellingOf
 
--- one more entry of it was handed over
+-- one more entry of the map was given
 pub next_entry : {whole left : List Pair} {p : Pair} {old : List Texts} → Given-but IsSpellingOf whole (p ∷ left) old → (new : List Texts) → JoinsEntry p.0 p.1 old new → Given-but IsSpellingOf whole left new
 next_entry {whole} {left} {p} {old} w new j =
     let e = joined_spelling p _ _ old new refl refl j.0.0 j.1 j.0.1 in

@@ -1,4 +1,4 @@
--- Pairs whose keys alone are spelled: in the order of these spellings they are the map.
+-- Pairs of which only the keys are spelled: in the order of these spellings they are the map.
 use Rattle.std.proofs.Common.{◌≡◌, ℕ, suc, ◌+◌, ◌<◌, drop, take, List, [], ◌∷◌, ◌++◌, length, get_or, map, Option, None, Some, Bool, true, false, Less, Result, Ok, Err, refl, sym, ap, ap₂, ◌∙◌, subst, arith, add-one, append-nil, drop-cons, IfSome, IsSomeAnd, OnOk, option_and_then, is_lt}
 use Rattle.std.specs.Fmt.{◌++?◌}
 use Rattle.ipld_tree.specs.Key.{bytes_cmp, key_cmp}

@@ -53,7 +53,7 @@ impl<'a, V> Model for Keyed<'a, V> {
 }
 
 impl<'a, V> Keyed<'a, V> {
-    /// Returns no entries yet, with room for `count`.
+    /// Returns an empty list of entries, with room for `count`.
     pub(crate) fn with_room(alloc: Global, count: usize) -> Result<Keyed<'a, V>, AllocError>
         ensures { IfOk result (λ k. k ≡ []) }
     {

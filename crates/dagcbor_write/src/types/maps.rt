@@ -63,8 +63,8 @@ impl<K: Ord + Serialize, V: Serialize> Serialize for BTreeMap<K, V> {
     ghost message = { λ m. RefusesEntries (map (λ e. (K.tree e.0, V.tree e.1)) m.entries) };
 
     /// Appends the map. Its message is that of the part without a spelling: a key, a repeated key,
-    /// or a value. If it is that of a key, nothing was written; nor if it is out of memory, unless
-    /// the values or the writer take memory.
+    /// or a value. If it is that of a key, nothing was written. If memory runs out, nothing was
+    /// written either, unless the values or the writer take memory.
     fn serialize<W: Write>(&self, alloc: Global, ser: &mut Serializer<W>) -> WriteResult<(), W>
         ensures written { Writes (spelled_tree (entries_tree
             (map (λ e. (K.tree e.0, V.tree e.1)) self.now.entries)))
@@ -90,8 +90,8 @@ impl<K: Eq + Hash + Serialize, V: Serialize> Serialize for HashMap<K, V> {
     ghost message = { λ m. RefusesEntries (map (λ e. (K.tree e.0, V.tree e.1)) m.entries) };
 
     /// Appends the map. Its message is that of the part without a spelling: a key, a repeated key,
-    /// or a value. If it is that of a key, nothing was written; nor if it is out of memory, unless
-    /// the values or the writer take memory.
+    /// or a value. If it is that of a key, nothing was written. If memory runs out, nothing was
+    /// written either, unless the values or the writer take memory.
     fn serialize<W: Write>(&self, alloc: Global, ser: &mut Serializer<W>) -> WriteResult<(), W>
         ensures written { Writes (spelled_tree (entries_tree
             (map (λ e. (K.tree e.0, V.tree e.1)) self.now.entries)))

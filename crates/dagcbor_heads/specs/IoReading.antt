@@ -8,9 +8,9 @@ may_consume n None = true
 may_consume n (Some most) = nat_le n most
 
 -- the bytes of the source after those taken, if they are known, begin with the copies, and the
--- copies may be consumed; else unknown. The reader hands out its copies, so bytes that differ
--- would not describe it. They differ only if the source's bytes were not known when they were
--- copied.
+-- copies may be consumed; else unknown. If the source has other bytes, they do not describe the
+-- reader, because it hands out its copies. That happens only if the bytes of the source were not
+-- known when they were copied.
 abbrev pub bytes_told : List ℕ → ℕ → Option (List ℕ) → Option ℕ → Option (List ℕ)
 bytes_told copies taken None most = None
 bytes_told copies taken (Some b) most = if bytes_eq (take (length copies) b) copies && may_consume (length copies) most then Some (drop taken b) else None

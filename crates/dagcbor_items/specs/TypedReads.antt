@@ -52,9 +52,8 @@ NoStepIfDeep old _ = ⊤
 abbrev pub Anything : {E : Type 0} → DecodeError E → List ℕ → Type 0
 Anything e b = ⊤
 
--- A typed read is refused with `OutOfMemory` only if its shape may take memory, with
--- `RequireBorrowed` only if it wants a loan, and for a cause in the bytes only if what it could
--- read is not there.
+-- A typed read is `OutOfMemory` only if its shape may take memory, `RequireBorrowed` only if it
+-- wants a loan, and refused for a cause only if what it could read is not there.
 abbrev pub RefusesRead : {Data V E : Type 0} → (could : Type 0) → Shape Data V → Reading
     → DecodeError E → Reading → Type 0
 RefusesRead could shape old = Refuses (record {

@@ -35,7 +35,7 @@ row_fits (two a b c d) h = rw b d
 row_fits (four a b c d) h = rw b d
 row_fits (eight a b c d) h = rw b d
 
--- ---- what stands where a head stands
+-- ---- what bytes that begin with a head have
 
 pub record Begins (first : ℕ) (more : List ℕ) (major n : ℕ) (rest : List ℕ) : Type 0 where
   pub major_is : first / 32 ≡ major

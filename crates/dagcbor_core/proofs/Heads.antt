@@ -59,7 +59,7 @@ shape major n h = elim (cases_lt n 24) [
   ]
 ]
 
--- how two rows stand to each other, as their arguments do
+-- how two rows compare, as their arguments do
 data Ranked (i w n j v o : ℕ) : Type 0 where
   lower : i < j → n < o → Ranked i w n j v o
   level : i ≡ j → w ≡ v → nat_cmp (n % 256 ^ w) (o % 256 ^ w) ≡ nat_cmp n o → Ranked i w n j v o

@@ -1,4 +1,4 @@
--- Bytes that are all there, split after a number or a head.
+-- Bytes that are all in memory, split after a number or a head.
 use Rattle.std.proofs.Common.{◌≡◌, ℕ, ◌+◌, ◌*◌, ◌/◌, ◌%◌, ◌<◌, ◌≤◌, List, ◌∷◌, ◌++◌, length, take, drop, sym, ap, ap₂, ◌∙◌, subst, arith, length-append, take-append-drop}
 use Rattle.std.specs.Int.{bytes_high_first}
 use Rattle.dagcbor_core.specs.Head.{head}
@@ -18,7 +18,7 @@ pub wide_split : (first n least : ℕ) (b behind rest : List ℕ) → first < 25
 wide_split first n least b behind rest byte low high is fits e h =
     (omega arith, h.1, e ∙ ap (λ x. first ∷ x) h.2 ∙ ap (λ x. x ++ rest) (sym (wide_head first n low high (subst (λ x. x ≤ n) is fits) h.0)))
 
--- ---- where no whole head stands
+-- ---- bytes that do not begin with a whole head
 
 pub no_head_nowhere : (b : List ℕ) → length b ≡ 0 → ¬ BeginsWithHead b
 no_head_nowhere b none h =
@@ -26,7 +26,7 @@ no_head_nowhere b none h =
     let is : b ≡ (32 * h.0 + f.0) ∷ (f.1 ++ h.2) = h.3.2 ∙ ap (λ x. x ++ h.2) f.3 in
     omega (arith, none, ap length is)
 
--- what a head that stands there says of its first byte and of what follows
+-- the first byte of a head at the front, and the bytes after it
 head_begins : (first : ℕ) (b behind : List ℕ) → b ≡ first ∷ behind → (h : BeginsWithHead b) → Begins first behind h.0 h.1 h.2
 head_begins first b behind e h = begins first behind h.0 h.1 h.2 h.3.1 (sym e ∙ h.3.2)
 

@@ -7,6 +7,6 @@ use Rattle.dagcbor_core.specs.declared.name.Name.{Name}
 abbrev pub name_bytes : Name → List ℕ
 name_bytes name = text_bytes name.text
 
--- the name is the longest beginning of the text that has at most 31 bytes and ends with a character
+-- the name is the longest beginning of the text of at most 31 bytes that ends with a character
 pub record Names (name : Name) (text : List ℕ) : Type 0 where
   pub kept : IsKept 31 (name_bytes name) text

@@ -1,9 +1,9 @@
--- What stands at the front of bytes that are all there.
+-- What is at the front of bytes that are all in memory.
 use Rattle.std.specs.Prelude.{◌≡◌, ℕ, ◌^◌, ◌<◌, List, ◌++◌}
 use Rattle.std.specs.Int.{bytes_high_first}
 use Rattle.dagcbor_core.specs.Head.{head}
 
--- the bytes begin with n in so many bytes, and the rest follows
+-- the bytes begin with n in `width` bytes, big-endian, and the rest follows
 abbrev pub SplitsNumber : ℕ → List ℕ → ℕ → List ℕ → Type 0
 SplitsNumber width b n rest = (n < 256 ^ width) × (n < 2 ^ 64) × (b ≡ bytes_high_first width n ++ rest)
 

@@ -18,7 +18,7 @@ pub enum Len {
 }
 
 impl Len {
-    /// The length as a refusal has it.
+    /// Returns the length as a refusal holds it: `Small` up to 65,535, else `Big`.
     pub fn new(length: u64) -> Len
         ensures { result ≡ len_of length }
     {
@@ -29,7 +29,7 @@ impl Len {
     }
 }
 
-/// Which end of its type a sum went past.
+/// The bound of its type that an arithmetic result exceeded.
 #[derive(Debug, Drop)]
 pub enum ArithmeticOverflow {
     Overflow,
@@ -41,9 +41,9 @@ pub enum ArithmeticOverflow {
 pub enum EncodeError<E> {
     /// The value has no spelling.
     Msg(Message),
-    /// The writer faulted.
+    /// The writer returned this error.
     Write(E),
-    /// A growth was refused.
+    /// Memory could not be allocated.
     OutOfMemory,
 }
 
@@ -52,7 +52,7 @@ impl<E> EncodeError<E> {
     ghost use Rattle.dagcbor_core.specs.Messages.{Says, message_bytes};
     ghost use Rattle.dagcbor_core.specs.declared.name.Message.{Message};
 
-    /// A refusal with a message of its own, as `Message::new` keeps it.
+    /// Returns a refusal with this message, cut as by `Message::new`.
     pub fn custom(message: &str) -> EncodeError<E>
         ensures { (kept : Message) × (result ≡ EncodeError.Msg kept) × Says kept message.now
             × (length message.now ≤ 63 → message_bytes kept ≡ message.now) }
@@ -72,7 +72,7 @@ impl<E> From<E> for EncodeError<E> {
     }
 }
 
-/// The text of `Debug`.
+/// Formats the error as `Debug` does.
 impl<E: Debug> Display for EncodeError<E> {
     fn fmt<W: fmt::Write>(&self, f: &mut Formatter<W>) -> fmt::Result {
         Debug::fmt(self, f)
@@ -81,36 +81,35 @@ impl<E: Debug> Display for EncodeError<E> {
 
 impl<E: Error> Error for EncodeError<E> {}
 
-/// Why a value was not read. `E` is the reader's error. A name says what was being read, and
-/// `found` is the byte at the place.
+/// Why a value was not read. `E` is the reader's error. `name` says what was being read, and a byte
+/// in `found` is the one at that place.
 #[derive(Debug, Drop)]
 pub enum DecodeError<E> {
-    /// A type accepts no such value.
+    /// The type does not accept this value.
     Msg(Name),
-    /// The reader faulted.
+    /// The reader returned this error.
     Read(E),
-    /// The input ends before `expect` bytes, the whole width of an argument or the whole announced
-    /// length.
+    /// The input ends before `expect` bytes: the width of an argument, or the announced length.
     Eof {
         name: Name,
         expect: Len,
     },
-    /// The byte begins no item that is wanted.
+    /// The byte does not begin an item of the wanted kind.
     Mismatch {
         name: Name,
         found: u8,
     },
-    /// The byte begins no item of the format.
+    /// The byte does not begin an item of the format.
     Unsupported {
         name: Name,
         found: u8,
     },
-    /// Never answered here. For a caller's own types.
+    /// Never returned by this library. For a caller's own types.
     RequireLength {
         name: Name,
         found: Len,
     },
-    /// The type borrows, and the reader does not lend.
+    /// The type borrows from the input, but the reader does not lend its bytes.
     RequireBorrowed {
         name: Name,
     },
@@ -118,21 +117,21 @@ pub enum DecodeError<E> {
     RequireUtf8 {
         name: Name,
     },
-    /// Never answered here. For a caller's own types.
+    /// Never returned by this library. For a caller's own types.
     LengthOverflow {
         name: Name,
         found: Len,
     },
-    /// The number is outside the wanted type.
+    /// The number is outside the range of the wanted type.
     CastOverflow {
         name: Name,
     },
-    /// Never answered here. For a caller's own types.
+    /// Never returned by this library. For a caller's own types.
     ArithmeticOverflow {
         name: Name,
         ty: ArithmeticOverflow,
     },
-    /// An item needs a step, and none is left.
+    /// An item needs a step, but no step is left.
     DepthOverflow {
         name: Name,
     },
@@ -146,14 +145,14 @@ pub enum DecodeError<E> {
     TrailingData,
     /// The head announces an indefinite length, or is a break.
     IndefiniteSize,
-    /// The head is not the shortest of its argument.
+    /// The head is not the shortest one for its argument.
     NonMinimal {
         name: Name,
         found: u8,
     },
-    /// The key does not come after the one before it.
+    /// The key does not come after the previous key.
     UnorderedKey,
-    /// A growth was refused.
+    /// Memory could not be allocated.
     OutOfMemory,
     /// An earlier call was refused.
     Failed,
@@ -164,14 +163,14 @@ impl<E> DecodeError<E> {
     ghost use Rattle.dagcbor_core.specs.Names.{Names};
     ghost use Rattle.dagcbor_core.specs.declared.name.Name.{Name};
 
-    /// A refusal with a message of its own, as `Name::new` keeps it.
+    /// Returns a refusal with this message, cut as by `Name::new`.
     pub fn custom(message: &str) -> DecodeError<E>
         ensures { (kept : Name) × (result ≡ DecodeError.Msg kept) × Names kept message.now }
     {
         DecodeError::Msg(Name::new(message))
     }
 
-    /// The input ends before so many bytes.
+    /// Returns `Eof`: the input ends before `expect` bytes.
     #[cold]
     #[inline(never)]
     pub fn end(name: &str, expect: Len) -> DecodeError<E>
@@ -183,7 +182,7 @@ impl<E> DecodeError<E> {
         }
     }
 
-    /// The byte begins no item that is wanted.
+    /// Returns `Mismatch`: the byte does not begin an item of the wanted kind.
     #[cold]
     #[inline(never)]
     pub fn mismatch(name: &str, found: u8) -> DecodeError<E>
@@ -195,7 +194,7 @@ impl<E> DecodeError<E> {
         }
     }
 
-    /// The byte begins no item of the format.
+    /// Returns `Unsupported`: the byte does not begin an item of the format.
     #[cold]
     #[inline(never)]
     pub fn unsupported(name: &str, found: u8) -> DecodeError<E>
@@ -208,7 +207,7 @@ impl<E> DecodeError<E> {
         }
     }
 
-    /// The number is outside the wanted type.
+    /// Returns `CastOverflow`: the number is outside the range of the wanted type.
     #[cold]
     #[inline(never)]
     pub fn out_of_range(name: &str) -> DecodeError<E>
@@ -231,7 +230,7 @@ impl<E> From<E> for DecodeError<E> {
     }
 }
 
-/// The text of `Debug`.
+/// Formats the error as `Debug` does.
 impl<E: Debug> Display for DecodeError<E> {
     fn fmt<W: fmt::Write>(&self, f: &mut Formatter<W>) -> fmt::Result {
         Debug::fmt(self, f)

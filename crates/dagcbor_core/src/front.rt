@@ -1,4 +1,4 @@
-//! Heads of bytes that are all there, taken in one piece.
+//! Splits heads off bytes that are all in memory.
 
 ghost use Rattle.std.specs.Prelude.{◌≡◌, ◌<◌, ◌≤◌, length, MatchOption};
 ghost use Rattle.std.specs.Int.{bytes_high_first};
@@ -14,7 +14,7 @@ fn split_one(bytes: &[u8]) -> Option<(u64, &[u8])>
     Some((u64::from(*number), rest))
 }
 
-/// The number that the bytes spell, the highest of them first.
+/// Returns the number whose big-endian bytes these are.
 #[inline(always)]
 #[tactic(auto, using(std::proofs::lemmas::Nat::be_bytes_2))]
 fn high_first_two(bytes: [u8; 2]) -> u16
@@ -32,7 +32,7 @@ fn split_two(bytes: &[u8]) -> Option<(u64, &[u8])>
     Some((u64::from(high_first_two(*front)), rest))
 }
 
-/// The number that the bytes spell, the highest of them first.
+/// Returns the number whose big-endian bytes these are.
 #[inline(always)]
 #[tactic(auto, using(std::proofs::lemmas::Nat::be_bytes_4))]
 fn high_first_four(bytes: [u8; 4]) -> u32
@@ -50,7 +50,7 @@ fn split_four(bytes: &[u8]) -> Option<(u64, &[u8])>
     Some((u64::from(high_first_four(*front)), rest))
 }
 
-/// The number that the bytes spell, the highest of them first.
+/// Returns the number whose big-endian bytes these are.
 #[inline(always)]
 fn high_first_eight(bytes: [u8; 8]) -> u64
     ensures { bytes_high_first 8 result ≡ bytes }
@@ -67,7 +67,7 @@ fn split_eight(bytes: &[u8]) -> Option<(u64, &[u8])>
     Some((high_first_eight(*front), rest))
 }
 
-/// The argument of an additional information from 24 to 27.
+/// Splits off the argument that this additional information, from 24 to 27, announces.
 #[inline(always)]
 fn split_argument(information: u8, bytes: &[u8]) -> Option<(u64, &[u8])>
     requires low { 24 ≤ information }
@@ -83,7 +83,7 @@ fn split_argument(information: u8, bytes: &[u8]) -> Option<(u64, &[u8])>
     }
 }
 
-/// The least argument that needs the width of an additional information from 24 to 27.
+/// Returns the least argument that needs the width of this additional information, from 24 to 27.
 pub fn least_argument(information: u8) -> u64
     requires low { 24 ≤ information }
     requires high { information ≤ 27 }
@@ -97,7 +97,8 @@ pub fn least_argument(information: u8) -> u64
     }
 }
 
-/// The head at the front: its major type, its argument, and the bytes after it.
+/// Returns the major type and the argument of the head at the front, and the bytes after it. `None`
+/// if the bytes do not begin with a head in shortest form.
 #[inline(always)]
 pub fn split_head(bytes: &[u8]) -> Option<(u8, u64, &[u8])>
     ensures { MatchOption result (¬ BeginsWithHead bytes.now)

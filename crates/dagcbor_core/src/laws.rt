@@ -2,7 +2,7 @@
 
 ghost use Rattle.dagcbor_core.specs.Laws.{HeadsAreUnique};
 
-/// A head is read in one way, whatever follows it.
+/// Bytes begin with at most one head, whatever follows it.
 pub fn head_unique()
     ensures { HeadsAreUnique }
 {}

@@ -1,6 +1,6 @@
 //! Heads of DAG-CBOR items at the front of bytes, and why a value is not read or not written.
 //!
-//! The head of a list of three items, with the first of them after it:
+//! The head of a list of three items, and the items after it:
 //!
 //! ```rust
 //! let (major, argument, rest) = split_head(&[0x83, 1, 2, 3]).unwrap();

@@ -8,21 +8,21 @@ use crate::text::Text;
 use std::fmt;
 use std::fmt::{Debug, Display, Formatter};
 
-/// What was being read, or a message: a text of at most 31 bytes, which needs no memory of its own.
+/// What was being read, or a message: a text of at most 31 bytes, stored inline.
 #[derive(Clone, Copy, PartialEq, Eq)]
 pub struct Name {
     text: Text<31>,
 }
 
-/// Why a value was not written: a text of at most 63 bytes, which needs no memory of its own.
+/// Why a value was not written: a text of at most 63 bytes, stored inline.
 #[derive(Clone, Copy, PartialEq, Eq)]
 pub struct Message {
     text: Text<63>,
 }
 
 impl Name {
-    /// The text, or the longest beginning of it that has at most 31 bytes and ends with a
-    /// character.
+    /// Keeps the text, or its longest beginning that has at most 31 bytes and ends at a character
+    /// boundary.
     pub fn new(text: &str) -> Name
         ensures { Names result text.now }
     {
@@ -31,7 +31,7 @@ impl Name {
         }
     }
 
-    /// The text, of at most 31 bytes.
+    /// Returns the text, of at most 31 bytes.
     pub fn as_str(&self) -> &str
         ensures { result.now ≡ name_bytes self.now }
     {
@@ -40,8 +40,8 @@ impl Name {
 }
 
 impl Message {
-    /// The text, or the longest beginning of it that has at most 63 bytes and ends with a
-    /// character.
+    /// Keeps the text, or its longest beginning that has at most 63 bytes and ends at a character
+    /// boundary.
     pub fn new(text: &str) -> Message
         ensures kept { Says result text.now }
         ensures whole { length text.now ≤ 63 → message_bytes result ≡ text.now }
@@ -51,7 +51,7 @@ impl Message {
         }
     }
 
-    /// The text, of at most 63 bytes.
+    /// Returns the text, of at most 63 bytes.
     pub fn as_str(&self) -> &str
         ensures { result.now ≡ message_bytes self.now }
     {
@@ -59,7 +59,7 @@ impl Message {
     }
 }
 
-/// As of a `&str`.
+/// Formats the text as a `&str`.
 impl Debug for Name {
     fn fmt<W: fmt::Write>(&self, f: &mut Formatter<W>) -> fmt::Result {
         Debug::fmt(&self.text, f)
@@ -72,7 +72,7 @@ impl Display for Name {
     }
 }
 
-/// As of a `&str`.
+/// Formats the text as a `&str`.
 impl Debug for Message {
     fn fmt<W: fmt::Write>(&self, f: &mut Formatter<W>) -> fmt::Result {
         Debug::fmt(&self.text, f)

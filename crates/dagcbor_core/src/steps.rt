@@ -1,4 +1,4 @@
 //! How deep a call may go.
 
-/// The steps into items that a call takes by default.
+/// The default budget of steps into items.
 pub const DEFAULT_STEPS: usize = 256;

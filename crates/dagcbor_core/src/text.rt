@@ -1,4 +1,4 @@
-//! Short texts that lie in the value itself: what names and messages are made of.
+//! Short texts stored inline. Names and messages are made of them.
 
 ghost use Rattle.std.specs.Prelude.{◌≡◌};
 ghost use Rattle.dagcbor_core.specs.Texts.{IsKept, text_bytes};
@@ -7,15 +7,15 @@ use arrayvec::ArrayString;
 use std::fmt;
 use std::fmt::{Debug, Display, Formatter};
 
-/// A text of at most `MOST` bytes, which needs no memory of its own.
+/// A text of at most `MOST` bytes, stored inline.
 #[derive(Clone, Copy, PartialEq, Eq)]
 pub(crate) struct Text<const MOST: usize> {
     text: ArrayString<MOST>,
 }
 
 impl<const MOST: usize> Text<MOST> {
-    /// The text, or the longest beginning of it that has at most `MOST` bytes and ends with a
-    /// character.
+    /// Keeps the text, or its longest beginning that has at most `MOST` bytes and ends at a
+    /// character boundary.
     pub(crate) fn new(text: &str) -> Text<MOST>
         ensures { IsKept MOST (text_bytes result) text.now }
     {
@@ -32,7 +32,7 @@ impl<const MOST: usize> Text<MOST> {
     }
 }
 
-/// As of a `&str`.
+/// Formats the text as a `&str`.
 impl<const MOST: usize> Debug for Text<MOST> {
     fn fmt<W: fmt::Write>(&self, f: &mut Formatter<W>) -> fmt::Result {
         Debug::fmt(&self.as_str(), f)

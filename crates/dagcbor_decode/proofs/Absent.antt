@@ -1,4 +1,4 @@
--- Where no leaf, no link and no key stands; and what a part that is split off says of the whole.
+-- Bytes that begin with no leaf, link or key; and what a part that is split off says of the whole.
 use Rattle.std.proofs.Common.{◌≡◌, inl, inr, ℕ, ◌<◌, ◌≤◌, List, ◌∷◌, length, take, refl, sym, ap, ◌∙◌, subst, arith, Option, Some, None, MatchOption}
 use Rattle.std.proofs.Math.Seq.{take-append_seam}
 use Rattle.dagcbor_core.specs.Splits.{SplitsHead}
@@ -12,7 +12,7 @@ use Rattle.dagcbor_decode.proofs.Fronts.{text_opened, text_passed, bytes_opened,
 
 -- ---- texts and byte strings
 
--- a payload of so many bytes is the one that stands there
+-- a payload of n bytes is the one at the front
 pub one_payload : (n : ℕ) (c s t x y : List ℕ) → SplitsPayload c n s x → SplitsPayload c n t y → s ≡ t
 one_payload n c s t x y p q = sym (taken s x p) ∙ taken t y q
   where

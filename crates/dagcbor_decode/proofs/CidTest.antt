@@ -57,7 +57,7 @@ passes b (c, inr h, e) =
     let p : parts_1 (drop 1 b) ≡ cid_parts 1 c.codec c.hash_code c.digest = ap (λ x. parts_1 (drop 1 x)) f ∙ parts_front c.codec c.hash_code c.digest h.1 h.2 h.3 in
     inr (subst Fits1 (sym p) (h.1, (h.2, omega (arith, h.3))), ap cid_bytes p ∙ form_1 (cid_parts 1 c.codec c.hash_code c.digest) refl ∙ sym f)
 
--- The test tells a CID.
+-- The test accepts exactly the CIDs.
 pub cid_tested : (s : List ℕ) → IsTrue (is_cid s) ↔ IsCid s
 unfolding is_cid
 cid_tested s = Decides-like (is_cid s) (is_one s) (passes s) (tests s)

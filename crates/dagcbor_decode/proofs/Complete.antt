@@ -1,4 +1,4 @@
--- A tree whose spelling stands there is read.
+-- A tree whose spelling is at the front is read.
 use Rattle.std.proofs.Common.{◌≡◌, inl, inr, ℕ, zero, suc, ◌/◌, ◌%◌, ◌^◌, ◌<◌, ◌≤◌, ◌==◌, List, [], ◌∷◌, ◌++◌, length, true, false, Option, None, Some, IsUtf8, pos, negsuc, codes, refl, sym, ap, ◌∙◌, arith, append_assoc, append-nil, le-ltb}
 use Rattle.std.specs.Str.{is_utf8}
 use Rattle.std.proofs.lemmas.Str.{is_utf8-from_IsUtf8}
@@ -17,7 +17,7 @@ use Rattle.dagcbor_decode.proofs.Sound.{ComesFirst}
 other_information : (i : ℕ) → i < 28 → (i == 31) ≡ false
 other_information i h = elim (eqb_tells i 31) [ inl a ↦ absurd (omega (arith, h, a.1)) | inr a ↦ a.0 ]
 
--- what is read where a head stands
+-- what is read if a head is at the front
 pub led : (steps major n : ℕ) (behind : List ℕ) (v : Decoded Tree) → n < 2 ^ 64
     → ((first : ℕ) (more : List ℕ) → first / 32 ≡ major → (first % 32 == 31) ≡ false → ((name : List ℕ) → argument_of name first more ≡ got n behind) → by_major_type (list_of steps) (map_of steps) first more ≡ v)
     → item_of (suc steps) (head major n ++ behind) ≡ v
@@ -123,7 +123,7 @@ mutual
       ∙ ap (λ x. after x (λ u rest. after (entries_of (item_of (suc steps)) (entry_count es) (Some k) rest) (λ es. got (entry k u es)))) (any_front u w.1 s.1 steps (omega (arith, h)) (entries_spelling es ++ rest))
       ∙ ap (λ x. after x (λ es. got (entry k u es))) (entries_front es w.3 s.2 (suc steps) (omega (arith, h)) (Some k) w.2 rest)
 
--- What stands there within the steps is read.
+-- A tree at the front is read, if its need is within the steps.
 pub any_reads : (steps : ℕ) (b : List ℕ) (u : Tree) (rest : List ℕ) → IsFront b u rest → any_need u ≤ steps → item_of steps b ≡ got u rest
 any_reads zero b u rest f h = absurd (omega (arith, h, some_need u))
 any_reads (suc steps) b u rest f h = ap (item_of (suc steps)) f.is ∙ any_front u f.well_formed f.spellable steps h rest

@@ -15,7 +15,7 @@ use Rattle.dagcbor_decode.proofs.HeadLaws.{AreBytes}
 use Rattle.dagcbor_decode.proofs.Parts.{unskimmed}
 use Rattle.dagcbor_decode.proofs.Sound.{any_got}
 
--- as many bytes as the first item has
+-- the first n bytes, if the first item has n bytes
 split_front : (s rest : List ℕ) (n : ℕ) → n ≡ length s → take n (s ++ rest) ≡ s
 split_front s rest n e = ap (λ k. take k (s ++ rest)) e ∙ take-append_seam s rest
 
@@ -39,7 +39,7 @@ rest_shorter b rest bytes e =
     let f = (any_got 256 b k.0 rest bytes k.1).0 in
     omega (arith, ap length f.is, length-append (spelling k.0) rest)
 
--- where it stands
+-- the item is at the front
 pub first_front : {b item : List ℕ} (f : IsFirstItem b item) → IsFront b f.tree f.rest
 first_front f = record { well_formed = f.spelled.well_formed; spellable = f.spelled.spellable; is = f.is ∙ ap (λ x. x ++ f.rest) f.spelled.is }
 
@@ -72,21 +72,21 @@ links_answer f links e = ap linked f.decoded ∙ ap Ok (sym e)
 pub first_need : {b item : List ℕ} (bytes : AreBytes b) (f : IsFirstItem b item) → any_need f.tree ≤ 256
 first_need {b} bytes f = (any_got 256 b f.tree f.rest bytes f.decoded).1
 
--- ---- what is not answered
+-- ---- what is not returned
 
 not_linked : {E : Type 0} (decoded : Decoded Tree) (e : DecodeError E) (t : Tree) (rest : List ℕ) → AnswersLinks decoded (Err e) → (e ≡ OutOfMemory → ⊥) → decoded ≡ got t rest → ⊥
 not_linked decoded OutOfMemory t rest h other is = other refl
 not_linked decoded e t rest h other is = absurd (let k = sym h ∙ ap linked is in cc k)
 
--- where links are read, they are refused for want of memory alone
+-- if the links can be read, the only refusal is out of memory
 pub links_not_refused : {E : Type 0} (b : List ℕ) (e : DecodeError E) (links : List (List ℕ)) → AnswersLinks (decode_first b) (Err e) → (e ≡ OutOfMemory → ⊥) → AreFirstLinks b links → ⊥
 links_not_refused b e links h other first = not_linked (decode_first b) e first.0 first.1 h other (any_reads 256 b first.0 first.1 first.2 first.3)
 
--- what a refusal says of no bytes is told of none
+-- a refusal that is not one of bytes is not the result of decoding
 pub told_of_none : {E : Type 0} (decoded : Decoded Tree) (e : DecodeError E) → why_of e ≡ None → linked decoded ≡ Err (why_of e) → ⊥
 told_of_none (got t rest) e none h = absurd (cc h)
 told_of_none (refused why left) e none h = let k = h ∙ ap Err none in absurd (cc k)
 
--- memory is wanting for links that are read
+-- a call may be out of memory if there are links to read
 pub some_links : (E : Type 0) (b : List ℕ) (links : List (List ℕ)) → AreFirstLinks b links → links ≢ [] → AnswersLinks {E = E} (decode_first b) (Err OutOfMemory)
 some_links E b links first some = (first.0, first.1, any_reads 256 b first.0 first.1 first.2 first.3, λ none. some (first.4 ∙ none))

@@ -102,7 +102,7 @@ kind_after steps first b = of_if (kind_at first) (first % 32 == 31) (refused ind
   ]
 ])
 
--- where an item is read, its kind is that of its first byte
+-- if an item is read, its kind is that of its first byte
 by_steps : (steps first : ℕ) (more : List ℕ) (t : Tree) (rest : List ℕ) → item_of steps (first ∷ more) ≡ got t rest → kind_at first ≡ kind_of t
 by_steps zero first more t rest e = absurd (cc e)
 by_steps (suc steps) first more t rest e = kind_after steps first more t rest e

@@ -77,7 +77,7 @@ no_front b rest t none f = none (major t, argument t, payload t ++ rest, (omega 
 pub bytes_opened : (m n : ℕ) (b c s rest : List ℕ) → SplitsHead b m n c → IsFront b (bytes s) rest → (m ≡ 2) × SplitsPayload c n s rest
 bytes_opened m n b c s rest h f = let k = by_head m n b c rest (bytes s) h.1 f h.2 in (sym k.0, (k.1, sym k.2))
 
--- the CID stands after the tag
+-- the CID is after the tag
 pub link_opened : (m n : ℕ) (b c cid rest : List ℕ) → SplitsHead b m n c → IsFront b (link cid) rest → (m ≡ 6) × (n ≡ 42) × SplitsCid c cid rest
 link_opened m n b c cid rest h f =
     let k = by_head m n b c rest (link cid) h.1 f h.2 in
@@ -87,7 +87,7 @@ link_opened m n b c cid rest h f =
 pub head_opened : (m n : ℕ) (b c rest : List ℕ) (t : Tree) → SplitsHead b m n c → IsFront b t rest → (major t ≡ m) × (argument t ≡ n) × (payload t ++ rest ≡ c)
 head_opened m n b c rest t h f = by_head m n b c rest t h.1 f h.2
 
--- the payload stands after the head
+-- the payload is after the head
 pub text_opened : (m n : ℕ) (b c s rest : List ℕ) → SplitsHead b m n c → IsFront b (text s) rest → (m ≡ 3) × SplitsText c n s rest
 text_opened m n b c s rest h f = let k = by_head m n b c rest (text s) h.1 f h.2 in (sym k.0, (f.well_formed, (k.1, sym k.2)))
 

@@ -1,4 +1,4 @@
--- A head is read as its argument, and what is read so is a head.
+-- A head is read as its argument, and what is read in this way is a head.
 use Rattle.std.proofs.Common.{◌≡◌, ◌⊎◌, inl, inr, ℕ, zero, suc, ◌+◌, ◌*◌, ◌/◌, ◌%◌, ◌^◌, ◌<◌, ◌≤◌, List, [], ◌∷◌, ◌++◌, length, take, drop, get_or, Bool, true, false, if◌then◌else◌, nat_lt, ◌==◌, refl, sym, ap, ap₂, ◌∙◌, subst, arith, lt-ltb, le-ltb, mod-eq_of_lt, length-append, take-append-drop, length-take}
 use Rattle.std.proofs.Math.Seq.{take-append_seam, drop-append_seam}
 use Rattle.std.proofs.lemmas.Bool.{ltb-false, cases_lt}
@@ -20,7 +20,7 @@ pub if_got : {A : Type 0} (c : Bool) (x y z : A) → (if c then x else y) ≡ z 
 if_got true x y z e = inl (refl, e)
 if_got false x y z e = inr (refl, e)
 
--- where it is either that or a refusal
+-- if it is either that or a refusal
 pub if_only : {A : Type 0} (c : Bool) (x y : Decoded A) (a : A) (rest : List ℕ) → ((¬ (y ≡ got a rest))) → (if c then x else y) ≡ got a rest → (c ≡ true) × (x ≡ got a rest)
 if_only true x y a rest n e = (refl, e)
 if_only false x y a rest n e = absurd (n e)
@@ -62,7 +62,7 @@ number_got name first w width least n b rest e =
 
 -- ---- heads
 
--- a head is read, under whatever name
+-- a head is read, whatever the name
 pub record ReadsHead (major n : ℕ) (b rest : List ℕ) : Type 0 where
   pub first : ℕ
   pub more : List ℕ

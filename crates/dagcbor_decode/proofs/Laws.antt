@@ -18,11 +18,11 @@ use Rattle.dagcbor_decode.proofs.Sound.{block_got}
 use Rattle.dagcbor_decode.proofs.Complete.{block_reads}
 use Rattle.dagcbor_decode.proofs.Seen.{Seen, IsEndWhy, IsEnd, Decides, local_any}
 
--- Bytes are decoded exactly where they are a block, as the product says it.
+-- Bytes decode to a tree if and only if they are a block of it.
 pub decodes_blocks : (b : List ℕ) (t : Tree) → AreBytes b → (decode b ≡ got t []) ↔ IsBlock b t
 decodes_blocks b t bytes = (λ e. let h = block_got b t [] bytes e in (h.0, h.1), λ h. block_reads b t h.0 h.1)
 
--- of a block the kind is answered
+-- the result for a block is the kind of its tree
 pub kind_judged : (b : List ℕ) (kind : Kind) → AreBytes b → Ok kind ≡ kind_told (decode b) → (t : Tree) × IsBlock b t × (kind ≡ kind_of t)
 kind_judged b kind bytes e = by (decode b) refl e
   where
@@ -44,7 +44,7 @@ some_why : (q : Decoded Tree) → answer q ≡ Err None → ⊥
 some_why (got t rest) k = absurd (cc k)
 some_why (refused why left) k = absurd (cc k)
 
--- memory is no reason
+-- the refusal is not out of memory
 pub no_memory : {E : Type 0} (b : List ℕ) (e : DecodeError E) → IsRefusedFor b e → e ≢ OutOfMemory
 no_memory b e h same = some_why (decode b) (h ∙ ap (λ x. Err (why_of x)) same)
 
@@ -52,17 +52,17 @@ same_refusal : {E : Type 0} (b : List ℕ) (e : DecodeError E) (place : ℕ) (q 
 same_refusal b e place (got t rest) k = absurd (cc k)
 same_refusal b e place (refused why left) k = ap Err (ap (why_in (λ p. p.0)) k)
 
--- with its place it is refused for the same
+-- with its place, it is refused for the same cause
 pub refused_for : {E : Type 0} (b : List ℕ) (e : DecodeError E) (place : ℕ) → IsRefusedAt b e place → IsRefusedFor b e
 refused_for b e place h = same_refusal b e place (decode b) h
 
--- nothing but missing bytes is told
+-- the refusal, if there is one, is for missing bytes
 abbrev pub IsSoFar : Decoded Tree → Type 0
 IsSoFar (got t rest) = ⊤
 IsSoFar (refused why left) = IsEndWhy why left
 
--- the bytes up to the place, whatever follows them, are refused for this, there; and of fewer of them
--- nothing but missing bytes is told
+-- the bytes up to the place, whatever follows them, are refused for this cause at this place; fewer
+-- of them are refused only for missing bytes
 abbrev pub StandsThere : List ℕ → Why → ℕ → Type 0
 StandsThere b why left = (s rest : List ℕ) × (b ≡ s ++ rest) × (length rest ≡ left)
     × ((x : List ℕ) → decode (s ++ x) ≡ refused why (length x))
@@ -72,7 +72,7 @@ so_far : (q : Decoded Tree) → IsEnd q → IsSoFar (after q at_end)
 so_far (got t rest) c = absurd c
 so_far (refused w k) c = c
 
--- bytes before the one that is too many
+-- the bytes before the first surplus byte
 before_last : (s : List ℕ) (x : ℕ) (t : Tree) → Decides (item_of 256) s (got t) → (j : ℕ) → j < length (s ++ x ∷ []) → IsSoFar (decode (take j (s ++ x ∷ [])))
 before_last s x t d j l = elim (cases_lt j (length s)) [
   | inl few ↦ subst (λ z. IsSoFar (decode z)) (sym (take-append-le j s (x ∷ []) (omega (arith, few)))) (so_far (item_of 256 (take j s)) (d.less j few))
@@ -111,6 +111,6 @@ parted b why left (got t (x ∷ rest)) h e =
       before_last h.0 x t h.2,
     )
 
--- A refusal is for missing bytes, or it stands where it is placed.
+-- A refusal is for missing bytes, or its cause is at its place.
 pub places : (b : List ℕ) (why : Why) (left : ℕ) → decode b ≡ refused why left → IsEndWhy why left ⊎ StandsThere b why left
 places b why left e = parted b why left (item_of 256 b) (local_any 256 b) e

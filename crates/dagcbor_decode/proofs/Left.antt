@@ -12,7 +12,7 @@ use Rattle.dagcbor_decode.proofs.Sound.{any_got, items_got, entries_got}
 pub bytes_after_head : (m n : ℕ) (b c : List ℕ) → SplitsHead b m n c → AreBytes b → AreBytes c
 bytes_after_head m n b c h r = bytes_behind (head m n) c (subst AreBytes h.2 r)
 
--- a refusal is told as it is
+-- the refusal is kept as it is
 pub none_left : {A : Type 0} (q : Decoded A) (w : Why) (k : ℕ) → Err (w, k) ≡ left_of q → refused w k ≡ skim q
 none_left (got a rest) w k e = absurd (cc e)
 none_left (refused why left) w k e = let p : ◌≡◌ {A = Why × ℕ} (w, k) (why, left) = cc e in ap₂ refused (ap (λ p. p.0) p) (ap (λ p. p.1) p)

@@ -56,7 +56,7 @@ none_judged w k (refused why left) e = cc e
 pub no_item : (b : List ℕ) (w : Why) (k : ℕ) → skim (decode_first b) ≡ refused w k → Err (w, k) ≡ kind_told (decode b)
 no_item b w k = none_judged w k (decode_first b)
 
--- ---- what is told of a block, in other words
+-- ---- the verdict on a block, in other words
 
 pub kind_answered : (kind : Kind) (q : Decoded Tree) → Ok kind ≡ kind_told q → Ok kind ≡ answer q
 kind_answered kind (got t rest) e = cc e

@@ -19,7 +19,7 @@ use Rattle.dagcbor_decode.specs.Decode.{Decoded, Why, got, refused, eof, unsuppo
 use Rattle.dagcbor_decode.specs.Verdicts.{IsRefusal, why_of}
 use Rattle.dagcbor_decode.proofs.HeadLaws.{payload_front}
 
--- ---- refusals of what goes on
+-- ---- refusals of what follows
 
 -- what is refused is refused, whatever was to follow
 pub refused_after : {A B E : Type 0} (r : Decoded A) (f : A → List ℕ → Decoded B) (e : DecodeError E) → IsRefusal r e → IsRefusal (after r f) e
@@ -81,7 +81,7 @@ pub byte_refused : {E : Type 0} (kept name : List ℕ) (e : DecodeError E) (b : 
 byte_refused {E} kept name (Eof m x) b k named h = ended E kept name m x 1 (head_read kept b) 0 k named h.0 (ap (head_read kept) h.1)
 byte_refused kept name _ b k named h = absurd h
 
--- the additional information of a first byte after which an argument stands
+-- the additional information of a first byte that is followed by an argument
 data Wide (i : ℕ) : Type 0 where
   one : i ≡ 24 → Wide i
   two : i ≡ 25 → Wide i
@@ -144,7 +144,7 @@ reserved kept first i more least most = by (eqb_tells i 28) (eqb_tells i 29) (eq
     by (inr a) (inr b) (inl c) = rw c.1 refl
     by (inr a) (inr b) (inr c) = absurd (omega (arith, a.1, b.1, c.1, least, most))
 
--- no head stands there
+-- the bytes do not begin with a head
 pub head_refused : {E : Type 0} (kept name : List ℕ) (e : DecodeError E) (b : List ℕ) → IsKept 31 kept name → IsNamed name e → HeadCause e b → IsRefusal (head_read kept b) e
 head_refused {E} kept name (Eof m x) [] k named h = ended E kept name m x 1 (head_read kept []) 0 k named h refl
 head_refused {E} kept name (Eof m x) (first ∷ more) k named h =

@@ -1,4 +1,4 @@
--- Where no front and no key is read, and what that says of the item.
+-- Bytes of which no front or key is read, and what that says of the item.
 use Rattle.std.proofs.Common.{◌≡◌, ◌≢◌, ◌⊎◌, inl, inr, ℕ, suc, zero, ◌/◌, ◌%◌, ◌==◌, ◌-◌, ◌<◌, ◌≤◌, List, [], ◌∷◌, length, Bool, true, false, if◌then◌else◌, Option, None, codes, refl, sym, ap, ◌∙◌, arith}
 use Rattle.std.proofs.lemmas.Bool.Decides.{eqb_tells}
 use Rattle.dagcbor_core.specs.Splits.{SplitsHead, BeginsWithHead}
@@ -16,12 +16,12 @@ use Rattle.dagcbor_decode.proofs.Sound.{key_got, leaf_got}
 use Rattle.dagcbor_decode.proofs.Absent.{parts_need}
 use Rattle.dagcbor_decode.proofs.Fronts.{no_front, head_opened}
 
--- what is read nowhere is refused
+-- bytes of which nothing is read are refused
 pub refused_unless : {A : Type 0} (q : Decoded A) → ((a : A) (rest : List ℕ) → ¬ (q ≡ got a rest)) → IsRefused q
 refused_unless (got a rest) none = none a rest refl
 refused_unless (refused why left) none = tt
 
--- ---- what stands where a front is read
+-- ---- what is at the front if a front is read
 
 -- the head of a list or a map for which steps are left
 abbrev IsOpened : ℕ → List ℕ → Type 0
@@ -59,7 +59,7 @@ front_got (suc steps) (first ∷ b) rest r e =
 front_refused : (steps : ℕ) (b : List ℕ) → AreBytes b → ¬ IsWithin steps b → ¬ IsOpened steps b → IsRefused (front_of steps b)
 front_refused steps b r none no_part = refused_unless (front_of steps b) (λ u rest e. elim (front_got steps b rest r e) [ inl k ↦ none k | inr k ↦ no_part k ])
 
--- ---- where the judge splits off nothing
+-- ---- if the judge splits off nothing
 
 pub no_head_there : (steps : ℕ) (b : List ℕ) → AreBytes b → ¬ BeginsWithHead b → IsRefused (front_of steps b)
 no_head_there steps b r none = front_refused steps b r (λ k. no_front b k.1 k.0 none k.2) (λ k. none (k.0, k.1, k.2, k.3))
@@ -80,7 +80,7 @@ leaf_need (list ts) a b = absurd (a refl)
 leaf_need (mapping es) a b = absurd (b refl)
 leaf_need _ a b = refl
 
--- of one list of bytes there is one head
+-- bytes begin with at most one head
 one_major : (m n m' n' : ℕ) (b c c' : List ℕ) → SplitsHead b m n c → SplitsHead b m' n' c' → m' ≡ m
 one_major m n m' n' b c c' h k = (head_unique m' n' m n c' c k.1 h.1 (sym k.2 ∙ h.2)).0
 

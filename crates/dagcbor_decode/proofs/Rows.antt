@@ -60,7 +60,7 @@ entries_linked : (es : Entries) → entries_links es ≡ flat_map links_of (entr
 entries_linked no_entries = refl
 entries_linked (entry k t es) = ap (λ s. links_of t ++ s) (entries_linked es)
 
--- what stands first, and what follows it
+-- the first item, and what follows it
 record Opened (b : List ℕ) (links : List (List ℕ)) : Type 0 where
   first : Tree
   more : List Tree
@@ -84,7 +84,7 @@ parts_left parts ts s ls c links w v spelled linked e l = record {
   are = l ∙ ap (λ x. x ++ flat_map links_of ts) linked ∙ sym (flat_map-append links_of parts ts);
 }
 
--- the row goes on after a head that is no link's, and after its string, where it is one of a string
+-- the row continues after a head that is not that of a link, and after its string if it has one
 abbrev GoesOn : List ℕ → ℕ → List (List ℕ) → ℕ → Type 0
 GoesOn c n links m = (IsTrue (is_string m) → n ≤ length c) × HoldsLinks (if is_string m then drop n c else c) links
 
@@ -128,7 +128,7 @@ link_passed b c m n links six h holds =
       record { trees = o.more; whole = o.whole; is = refl; are = refl },
     )
 
--- no head stands there: no item is left
+-- if the bytes do not begin with a head, no item is left
 pub none_left : (b : List ℕ) (links : List (List ℕ)) → ¬ BeginsWithHead b → HoldsLinks b links → links ≡ []
 none_left b links none holds = by holds.trees holds.whole holds.is holds.are
   where
@@ -144,7 +144,7 @@ link_parts b c m n h (cid, rest, s) =
     let back : drop n c ≡ rest = ap (λ i. drop i c) (sym k.1.0) ∙ ap (drop (length (0x00 ∷ cid))) k.1.1 ∙ drop-append_seam (0x00 ∷ cid) rest in
     (omega (arith, k.1.0, ap length k.1.1, length-append (0x00 ∷ cid) rest), cid, front, subst (SplitsCid b cid) (sym back) s)
 
--- one CID stands there
+-- the bytes begin with at most one CID
 pub one_cid : (c x y s t : List ℕ) → SplitsCid c x s → SplitsCid c y t → (x ≡ y) × (s ≡ t)
 one_cid c x y s t h k =
     let same = front_unique c s t (bytes (0x00 ∷ x)) (bytes (0x00 ∷ y)) h.1 k.1 in

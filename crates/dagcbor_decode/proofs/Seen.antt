@@ -1,4 +1,4 @@
--- What is answered depends on the bytes that were seen alone, and with one byte less they are cut.
+-- A result depends only on the bytes that were seen, and with one byte fewer they are cut.
 use Rattle.std.proofs.Common.{◌≡◌, ◌⊎◌, inl, inr, ℕ, zero, suc, ◌+◌, ◌-◌, ◌<◌, ◌/◌, ◌%◌, ◌==◌, List, [], ◌∷◌, ◌++◌, length, take, Bool, true, false, if◌then◌else◌, nat_lt, Option, None, Some, pos, negsuc, codes, refl, sym, ap, ◌∙◌, subst, arith, append_assoc, length-append, length-take, take-append-drop, lt-ltb, le-ltb}
 use Rattle.std.proofs.Math.Seq.{take-append-add}
 use Rattle.std.proofs.lemmas.List.{take-append-le}
@@ -18,7 +18,7 @@ abbrev pub IsEnd : {A : Type 0} → Decoded A → Type 0
 IsEnd (got a rest) = ⊥
 IsEnd (refused why behind) = IsEndWhy why behind
 
--- whatever follows s, the answer is this of what follows, and s with less is cut
+-- whatever follows s, the result is this one for those bytes; and s with fewer bytes is cut
 pub record Decides {A : Type 0} (read : List ℕ → Decoded A) (s : List ℕ) (answer : List ℕ → Decoded A) : Type 0 where
   pub same : (x : List ℕ) → read (s ++ x) ≡ answer x
   pub less : (j : ℕ) → j < length s → IsEnd (read (take j s))
@@ -30,7 +30,7 @@ Seen read b (refused why behind) = IsEndWhy why behind ⊎ ((s rest : List ℕ) 
 abbrev pub Local : {A : Type 0} → (List ℕ → Decoded A) → Type 0
 Local read = (b : List ℕ) → Seen read b (read b)
 
--- ---- where nothing is seen
+-- ---- if nothing is seen
 
 at_once : {A : Type 0} (read : List ℕ → Decoded A) (answer : List ℕ → Decoded A) → ((x : List ℕ) → read x ≡ answer x) → Decides read [] answer
 at_once read answer h = record { same = h; less = λ j l. absurd (omega (arith, l)) }
@@ -205,7 +205,7 @@ local_map : (steps x : ℕ) → Local (item_of steps) → Local (map_of (suc ste
 local_map steps x h = local_after (argument_of (codes "map") x) (λ n rest. after (entries_of (item_of steps) n None rest) (λ es. got (mapping es))) (local_head (codes "map") x)
     (λ n. local_after (entries_of (item_of steps) n None) (λ es. got (mapping es)) (local_entries (item_of steps) h n None) (λ es. local_got (mapping es)))
 
--- What is answered of an item depends on the bytes that were seen alone, and with less they are cut.
+-- The result for an item depends only on the bytes that were seen, and with fewer they are cut.
 pub local_any : (steps : ℕ) → Local (item_of steps)
 local_any zero = local_no (depth_overflow (codes "any"))
 local_any (suc zero) = local_byte (item_of 1) refl (λ x. local_item (list_of 0) (map_of 0) x (local_no (depth_overflow (codes "array"))) (local_no (depth_overflow (codes "map"))))

@@ -144,7 +144,7 @@ leaf_got first b u rest r e = elim (eqb_tells (first / 32) 0) [
 
 -- ---- items and entries
 
--- what reads an item within so many steps
+-- what reads an item within this many steps
 abbrev pub IsSound : (List ℕ → Decoded Tree) → ℕ → Type 0
 IsSound any steps = (b : List ℕ) (u : Tree) (rest : List ℕ) → AreBytes b → any b ≡ got u rest → IsFront b u rest × (any_need u ≤ steps)
 
@@ -163,7 +163,7 @@ items_got any steps sound (suc count) b us rest r e =
     got_in (λ us rest. (item_count us ≡ suc count) × AreFronts b us rest × (items_need us ≤ steps)) (item h.0 m.0) us m.1 rest m.3
     (ap suc l.0, item_closed b h.1 m.1 h.0 m.0 k.0 l.1, omega (arith, k.1, l.2))
 
--- the first key may follow the one before
+-- the first key may follow the previous one
 abbrev pub ComesFirst : Option (List ℕ) → Entries → Type 0
 ComesFirst None es = ⊤
 ComesFirst (Some k) es = Precedes k es
@@ -244,7 +244,7 @@ one_step : IsSound (item_of 1) 1
 one_step [] u rest r e = absurd (cc e)
 one_step (first ∷ b) u rest r e = item_got (list_of 0) (map_of 0) 0 first b u rest (bytes_behind (first ∷ []) b r) (λ m e. absurd (cc e)) (λ m e. absurd (cc e)) e
 
--- What is read stands there, and takes no more than the steps.
+-- What is read is at the front, and takes no more than the steps.
 pub any_got : (steps : ℕ) → IsSound (item_of steps) steps
 any_got zero = λ b u rest r e. absurd (cc e)
 any_got (suc zero) = one_step

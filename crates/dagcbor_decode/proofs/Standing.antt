@@ -1,4 +1,4 @@
--- What stands there is read.
+-- What is at the front is read.
 use Rattle.std.proofs.Common.{◌≡◌, ℕ, suc, zero, ◌-◌, ◌≤◌, List, ap, ◌∙◌, arith, Option, None, codes, true}
 use Rattle.dagcbor_core.specs.Splits.{SplitsHead}
 use Rattle.ipld_tree.specs.Tree.{list, mapping, text}

@@ -1,4 +1,4 @@
--- Blocks: the spellings of trees that are read within the steps of a fresh reader.
+-- Blocks: the spellings of trees that a fresh reader reads within its steps.
 use Rattle.std.specs.Prelude.{◌≡◌, ℕ, ◌≤◌, List}
 use Rattle.dagcbor_core.specs.Steps.{default_steps}
 use Rattle.ipld_tree.specs.Tree.{Tree, any_need, links_of}

@@ -1,6 +1,6 @@
--- DAG-CBOR as one function: what bytes decode to. It answers the item at the front of the bytes, as
--- a tree, and the bytes after it; or why there is none, and how many bytes are left after the last
--- one that was looked at. Bytes are looked at in their order.
+-- DAG-CBOR as one function: what bytes decode to. It returns the item at the front of the bytes, as
+-- a tree, and the bytes after it; or why there is no item, and how many bytes are left after the
+-- last one that was looked at. Bytes are looked at in order.
 use Rattle.std.specs.Prelude.{ℕ, zero, suc, ◌^◌, ◌/◌, ◌%◌, ◌==◌, nat_lt, pos, negsuc, List, [], ◌∷◌, length, take, drop, codes, Option, None, Some, Bool, true, false, if◌then◌else◌}
 use Rattle.std.specs.Int.{w8, w16, w32, w64, from_be_bytes, Width}
 use Rattle.std.specs.Str.{is_utf8}
@@ -10,7 +10,7 @@ use Rattle.ipld_tree.specs.Key.{comes_before}
 use Rattle.ipld_tree.specs.Tree.{Tree, Items, Entries, null, boolean, integer, text, bytes, list, mapping, link, no_items, item, no_entries, entry}
 use Rattle.dagcbor_decode.specs.CidTest.{is_cid}
 
--- Why bytes are refused: as the variant of `DecodeError` of this name says it. A list of numbers is
+-- Why bytes are refused, as the variant of `DecodeError` with this name says. A list of numbers is
 -- the name of what was being read, or a message; a number is the byte that was found.
 pub data Why : Type 0 where
   eof : List ℕ → Len → Why
@@ -23,31 +23,31 @@ pub data Why : Type 0 where
   unordered_key : Why
   depth_overflow : List ℕ → Why
   trailing_data : Why
-  -- of a number that a type does not have
+  -- a number outside the range of a type
   cast_overflow : List ℕ → Why
 
 pub data Decoded (A : Type 0) : Type 0 where
   got : A → List ℕ → Decoded A
   refused : Why → ℕ → Decoded A
 
--- what is read of the bytes after
+-- what f reads of the rest, unless the first read was refused
 abbrev pub after : {A B : Type 0} → Decoded A → (A → List ℕ → Decoded B) → Decoded B
 after (got a rest) f = f a rest
 after (refused why left) f = refused why left
 
 -- ---- heads and payloads (RFC 8949, section 3)
 
--- so many bytes
+-- the next n bytes
 abbrev pub payload : List ℕ → ℕ → List ℕ → Decoded (List ℕ)
 payload name n b =
     if nat_lt (length b) n then refused (eof name (len_of n)) 0 else got (take n b) (drop n b)
 
--- an argument that no shorter head has (DAG-CBOR, strictness)
+-- an argument, refused if a shorter head has it (DAG-CBOR, strictness)
 abbrev pub at_least : List ℕ → ℕ → ℕ → ℕ → List ℕ → Decoded ℕ
 at_least name first least n rest =
     if nat_lt n least then refused (non_minimal name first) (length rest) else got n rest
 
--- an argument of so many bytes, the highest first
+-- an argument of `width` bytes, big-endian
 abbrev pub number : List ℕ → ℕ → Width → (width least : ℕ) → List ℕ → Decoded ℕ
 number name first w width least b =
     after (payload name width b) (λ s. at_least name first least (from_be_bytes w s))
@@ -78,7 +78,7 @@ utf8_of name s rest = if is_utf8 s then got s rest else refused (require_utf8 na
 abbrev pub text_of : List ℕ → ℕ → List ℕ → Decoded (List ℕ)
 text_of name first b = after (string_of name first b) (utf8_of name)
 
--- whether a key may come after the one before it: the shorter first, those of one length by their
+-- whether a key may come after the previous one: the shorter first, keys of equal length by their
 -- bytes (DAG-CBOR, map keys)
 abbrev pub follows : Option (List ℕ) → List ℕ → Bool
 follows None key = true
@@ -104,7 +104,7 @@ zero_and_cid [] rest = no_cid rest
 zero_and_cid (zero ∷ cid) rest = if is_cid cid then got (link cid) rest else no_cid rest
 zero_and_cid (suc n ∷ cid) rest = no_cid rest
 
--- the greatest CID has 86 bytes
+-- the longest CID has 86 bytes
 abbrev pub cid_bytes_of : ℕ → List ℕ → Decoded Tree
 cid_bytes_of n b = if nat_lt 87 n then no_cid b else after (payload (codes "cid") n b) zero_and_cid
 
@@ -133,7 +133,7 @@ simple_of first b =
     else if first == 0xf6 then got null b
     else refused (unsupported (codes "any") first) (length b)
 
--- an item that has no others in it
+-- a leaf: an item that contains no other
 abbrev pub leaf_of : ℕ → List ℕ → Decoded Tree
 leaf_of first b =
     if first / 32 == 0 then after (argument_of (codes "u64") first b) (λ n. got (integer (pos n)))
@@ -143,13 +143,13 @@ leaf_of first b =
     else if first / 32 == 6 then link_of first b
     else simple_of first b
 
--- so many items in a row, by what reads one
+-- `count` items in a row, each read by `one`
 abbrev pub items_of : (List ℕ → Decoded Tree) → ℕ → List ℕ → Decoded Items
 items_of one zero b = got no_items b
 items_of one (suc count) b =
     after (one b) λ t rest. after (items_of one count rest) λ ts. got (item t ts)
 
--- so many entries in a row, after a key, by what reads one value
+-- `count` entries in a row, after the key `previous`, if any; each value is read by `one`
 abbrev pub entries_of : (List ℕ → Decoded Tree) → ℕ → Option (List ℕ) → List ℕ → Decoded Entries
 entries_of one zero previous b = got no_entries b
 entries_of one (suc count) previous b =

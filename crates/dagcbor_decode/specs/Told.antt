@@ -1,4 +1,4 @@
--- What the parts of the judge answer, in the words of `Decode.antt`. No public contract names it.
+-- What the parts of the judge return, in the words of `Decode.antt`. No public contract names it.
 use Rattle.std.specs.Prelude.{ℕ, zero, suc, ◌/◌, ◌%◌, ◌==◌, List, [], ◌∷◌, length, Option, Some, None, Result, Ok, Err, codes, if◌then◌else◌}
 use Rattle.std.specs.Bool.{⊤}
 use Rattle.std.specs.Borrow.{Bor}
@@ -38,52 +38,52 @@ why cause.UnorderedKey = unordered_key
 why (cause.DepthOverflow l) = depth_overflow (name l)
 why cause.TrailingData = trailing_data
 
--- what is read, and the bytes after it
+-- a result as a `Decoded`: what was read and the bytes after it, or the refusal
 abbrev pub told : {A B : Type 0} → (A → B) → Result (A × Bor (List ℕ)) Stop → Decoded B
 told held (Ok p) = got (held p.0) p.1.now
 told held (Err e) = refused (why e.cause) e.left
 
--- the bytes after what is read
+-- the same for a result that has only the bytes after what was read
 abbrev pub rest_of : Result (Bor (List ℕ)) Stop → Decoded (Unit {0})
 rest_of (Ok rest) = got tt rest.now
 rest_of (Err e) = refused (why e.cause) e.left
 
--- without what was read
+-- the same without the value that was read
 abbrev pub skim : {A : Type 0} → Decoded A → Decoded (Unit {0})
 skim (got a rest) = got tt rest
 skim (refused why left) = refused why left
 
--- the bytes after what is read, or the stop that was put down
+-- the bytes after what was read, or else the refusal of this stop
 abbrev pub rest_or : Option (Bor (List ℕ)) → Stop → Decoded (Unit {0})
 rest_or (Some rest) s = got tt rest.now
 rest_or None s = refused (why s.cause) s.left
 
--- how many bytes are left after what is read
+-- how many bytes are left after what was read, or the refusal
 abbrev pub left_of : {A : Type 0} → Decoded A → Result ℕ (Why × ℕ)
 left_of (got a rest) = Ok (length rest)
 left_of (refused why left) = Err (why, left)
 
--- how many, or that stop
+-- how many bytes are left, or else the refusal of this stop
 abbrev pub left_or : Option ℕ → Stop → Result ℕ (Why × ℕ)
 left_or (Some left) s = Ok left
 left_or None s = Err (why s.cause, s.left)
 
--- the kind of what is decoded, or why nothing is
+-- the kind of the decoded tree, or the refusal
 abbrev pub kind_told : Decoded Tree → Result Kind (Why × ℕ)
 kind_told (got t rest) = Ok (kind_of t)
 kind_told (refused why left) = Err (why, left)
 
--- a kind, or that stop
+-- a kind, or else the refusal of this stop
 abbrev pub kind_or : Option Kind → Stop → Result Kind (Why × ℕ)
 kind_or (Some kind) s = Ok kind
 kind_or None s = Err (why s.cause, s.left)
 
--- nothing is read
+-- the read was refused
 abbrev pub IsRefused : {A : Type 0} → Decoded A → Type 0
 IsRefused (got a rest) = ⊥
 IsRefused (refused why left) = ⊤
 
--- the number of items or entries, if steps are left for them
+-- the number of items or entries, refused if no step is left for them
 abbrev pub count_of : List ℕ → ℕ → ℕ → List ℕ → Decoded ℕ
 count_of name zero first b = refused (depth_overflow name) (length b)
 count_of name (suc steps) first b = argument_of name first b

@@ -1,4 +1,4 @@
-//! Why the judge stops, as it keeps it; and as a refusal.
+//! Why the judge stops, in its own form and as a refusal.
 
 ghost use Rattle.std.specs.Prelude.{◌≡◌, Some};
 ghost use Rattle.std.specs.declared.convert.Infallible.{Infallible};
@@ -40,7 +40,7 @@ pub(crate) enum Cause {
     TrailingData,
 }
 
-/// Why the judge stops, and how many bytes are left after the last that it looked at.
+/// Why the judge stops, and how many bytes are left after the last one that it looked at.
 #[derive(Clone, Copy)]
 pub(crate) struct Stop {
     pub(crate) cause: Cause,
@@ -48,7 +48,7 @@ pub(crate) struct Stop {
 }
 
 impl Stop {
-    /// As where nothing was refused.
+    /// Returns a placeholder, for when nothing was refused.
     pub(crate) fn new() -> Stop {
         Stop {
             cause: Cause::TrailingData,
@@ -58,7 +58,7 @@ impl Stop {
 }
 
 impl Label {
-    /// The text of the name that a refusal has.
+    /// Returns the text of the name in a refusal.
     fn text(self) -> &'static str
         ensures { result.now ≡ name self }
     {
@@ -77,7 +77,7 @@ impl Label {
         }
     }
 
-    /// The name that a refusal has.
+    /// Returns the name in a refusal.
     fn name(self) -> Name
         ensures { name_bytes result ≡ name self }
     {
@@ -86,7 +86,7 @@ impl Label {
 }
 
 impl Cause {
-    /// The refusal for this.
+    /// Returns the refusal for this cause.
     #[cold]
     #[inline(never)]
     pub(crate) fn refusal(self) -> DecodeError<Infallible>

@@ -1,4 +1,4 @@
-//! Whether bytes are a CID.
+//! Tests whether bytes are a CID.
 
 ghost use Rattle.std.specs.Prelude.{◌≡◌, ◌↔◌, ◌<◌, ◌≤◌, IsTrue, length};
 ghost use Rattle.ipld_tree.specs.Cid.{IsCid};
@@ -6,7 +6,7 @@ ghost use Rattle.dagcbor_decode.specs.CidTest.{is_cid};
 
 use ipld_tree::Cid;
 
-/// Whether these are fields of one byte each, with a digest of so many bytes after them.
+/// Returns whether these are fields of one byte each, and the digest has `count` bytes.
 #[inline(always)]
 fn are_short_fields(codec: u8, hash_code: u8, count: u8, digest: &[u8]) -> bool
     ensures { IsTrue result → (codec < 128) × (hash_code < 128) × (count ≤ 64)
@@ -18,7 +18,7 @@ fn are_short_fields(codec: u8, hash_code: u8, count: u8, digest: &[u8]) -> bool
     digest.len() == usize::from(count)
 }
 
-/// Whether the bytes are a CID of version 1 with fields of one byte each, as most are.
+/// Returns whether the bytes are a CID of version 1 with fields of one byte each, as most are.
 #[inline(always)]
 fn is_plain_cid(bytes: &[u8]) -> bool
     ensures { IsTrue result → IsCid bytes.now }
@@ -49,7 +49,7 @@ fn is_any_cid(bytes: &[u8]) -> bool
     Cid::try_from(bytes).is_ok()
 }
 
-/// Whether the bytes are a CID.
+/// Returns whether the bytes are a CID.
 #[inline(always)]
 pub fn is_cid(bytes: &[u8]) -> bool
     ensures { result ≡ is_cid bytes.now }

@@ -1,5 +1,5 @@
-//! What stands at the front of bytes that are all there, and the bytes after it: payloads, keys,
-//! links, and items that have no others in them. `None` says that nothing of the kind stands there.
+//! Splits payloads, keys, links and leaves (items that contain no other) off the front of bytes
+//! that are all in memory. `None` says that the bytes begin with nothing of the kind.
 
 ghost use Rattle.std.specs.Prelude.{◌≡◌, ◌<◌, ◌≤◌, length, List, ℕ, MatchOption};
 ghost use Rattle.dagcbor_core.specs.Splits.{SplitsHead};
@@ -11,7 +11,7 @@ use crate::cid::is_cid;
 use crate::text::is_text;
 use dagcbor_core::split_head;
 
-/// The next n bytes, and the bytes after them.
+/// Returns the next n bytes, and the bytes after them. `None` if fewer than n are left.
 #[inline(always)]
 pub fn split_payload(bytes: &[u8], n: u64) -> Option<(&[u8], &[u8])>
     ensures { MatchOption result (length bytes.now < n)
@@ -23,7 +23,7 @@ pub fn split_payload(bytes: &[u8], n: u64) -> Option<(&[u8], &[u8])>
     Some(bytes.split_at(n as usize))
 }
 
-/// The bytes of a text of n bytes, and the bytes after it.
+/// Returns the bytes of a text of n bytes, and the bytes after it.
 #[inline(always)]
 fn split_text(bytes: &[u8], n: u64) -> Option<(&[u8], &[u8])>
     ensures { MatchOption result
@@ -37,7 +37,7 @@ fn split_text(bytes: &[u8], n: u64) -> Option<(&[u8], &[u8])>
     Some((payload, rest))
 }
 
-/// The bytes of a key, and the bytes after it.
+/// Returns the bytes of the key at the front, and the bytes after it.
 #[inline(always)]
 pub(crate) fn split_key(bytes: &[u8]) -> Option<(&[u8], &[u8])>
     ensures { MatchOption result
@@ -51,7 +51,7 @@ pub(crate) fn split_key(bytes: &[u8]) -> Option<(&[u8], &[u8])>
     split_text(more, count)
 }
 
-/// The bytes after a byte string of a zero and a CID.
+/// Returns the bytes after the byte string of a zero and a CID.
 #[inline(always)]
 fn behind_cid(bytes: &[u8]) -> Option<&[u8]>
     ensures { MatchOption result
@@ -73,7 +73,7 @@ fn behind_cid(bytes: &[u8]) -> Option<&[u8]>
     Some(rest)
 }
 
-/// The bytes after the item that a tag of this number is for, if it is the tag of links.
+/// Returns the bytes after the content of a tag of this number, if it is the tag of links.
 #[inline(always)]
 fn behind_tag(number: u64, bytes: &[u8]) -> Option<&[u8]>
     ensures { MatchOption result
@@ -86,7 +86,7 @@ fn behind_tag(number: u64, bytes: &[u8]) -> Option<&[u8]>
     behind_cid(bytes)
 }
 
-/// The bytes after the link at the front, if there is one.
+/// Returns the bytes after the link at the front, or `None` if there is no link.
 pub fn behind_link(bytes: &[u8]) -> Option<&[u8]>
     ensures { MatchOption result
         (¬ ((cid : List ℕ) × (rest : List ℕ) × IsFront bytes.now (link cid) rest))
@@ -99,7 +99,7 @@ pub fn behind_link(bytes: &[u8]) -> Option<&[u8]>
     behind_tag(number, more)
 }
 
-/// The bytes after a simple value, if it is one of data: false, true or null.
+/// Returns the bytes after a simple value, if it is false, true or null.
 #[inline(always)]
 fn behind_simple(value: u64, bytes: &[u8]) -> Option<&[u8]>
     ensures { MatchOption result (20 ≤ value → ¬ (value ≤ 22))
@@ -114,8 +114,8 @@ fn behind_simple(value: u64, bytes: &[u8]) -> Option<&[u8]>
     Some(bytes)
 }
 
-/// The bytes after an item whose head was split off, if it can have no others in it: it is no list and
-/// no map.
+/// Returns the bytes after an item whose head was split off, if it is a leaf: neither a list nor a
+/// map.
 #[inline(always)]
 pub fn behind_leaf(major: u8, argument: u64, more: &[u8]) -> Option<&[u8]>
     ensures { (b : List ℕ) → SplitsHead b major argument more.now → MatchOption result

@@ -1,7 +1,7 @@
-//! Judging bytes: what comes after the item with which they begin. Where an item stands its head is
-//! split off and no more is asked; where none does, or a byte is missing, its parts are asked for the
-//! cause. The cause and its place are put beside the results, and lists and maps answer how many bytes
-//! are left. So results stay in registers.
+//! Judges bytes, by finding what comes after the item with which they begin. If they begin with an
+//! item, its head is split off and nothing more is asked. If not, or if a byte is missing, its
+//! parts are read one by one to find the cause. The cause and its place are kept apart from the
+//! results, and lists and maps return how many bytes are left. So results stay in registers.
 
 ghost use Rattle.std.specs.Prelude.{ℕ, List, ◌≡◌, ◌≤◌, ◌-◌, None, option_map, length, drop, MatchOption};
 ghost use Rattle.dagcbor_decode.specs.Told.{left_or, left_of, rest_or, skim, why, front_of, IsRefused};
@@ -12,7 +12,7 @@ use crate::front::{behind_leaf, split_key};
 use crate::part::{follows, front_of, key_of};
 use dagcbor_core::split_head;
 
-/// A key that may come after the one before it, and the bytes after it.
+/// Returns a key that may come after the previous one, and the bytes after it.
 #[inline(always)]
 fn split_next_key<'b>(previous: &Option<&[u8]>, bytes: &'b [u8]) -> Option<(&'b [u8], &'b [u8])>
     ensures { MatchOption result
@@ -26,7 +26,7 @@ fn split_next_key<'b>(previous: &Option<&[u8]>, bytes: &'b [u8]) -> Option<(&'b 
     Some((key, rest))
 }
 
-/// Stops for want of a key that may come after the one before it.
+/// Puts into `stop` why no key that may come after the previous one is at the front.
 #[cold]
 #[inline(never)]
 fn refuse_key(previous: &Option<&[u8]>, bytes: &[u8], stop: &mut Stop)
@@ -40,8 +40,8 @@ fn refuse_key(previous: &Option<&[u8]>, bytes: &[u8], stop: &mut Stop)
     }
 }
 
-/// Stops for want of an item that has no others in it, and of a list and a map for which steps are
-/// left.
+/// Puts into `stop` why the bytes begin with neither a leaf nor the head of a list or map for which
+/// steps are left.
 #[cold]
 #[inline(never)]
 fn refuse_item(steps: usize, bytes: &[u8], stop: &mut Stop)
@@ -54,7 +54,7 @@ fn refuse_item(steps: usize, bytes: &[u8], stop: &mut Stop)
     }
 }
 
-/// The last bytes, so many.
+/// Returns the last `left` bytes.
 #[inline(always)]
 fn last(bytes: &[u8], left: usize) -> &[u8]
     requires { left ≤ length bytes.now }
@@ -63,7 +63,7 @@ fn last(bytes: &[u8], left: usize) -> &[u8]
     bytes.split_at(bytes.len() - left).1
 }
 
-/// The bytes after an item for which so many steps are left. Each step takes stack.
+/// Returns the bytes after an item for which `steps` steps are left. Each step takes stack.
 #[cycle(judge)]
 #[inline(always)]
 pub(crate) fn judge_item<'b>(steps: usize, bytes: &'b [u8], stop: &mut Stop) -> Option<&'b [u8]>
@@ -91,7 +91,7 @@ pub(crate) fn judge_item<'b>(steps: usize, bytes: &'b [u8], stop: &mut Stop) -> 
     None
 }
 
-/// How many bytes are left after so many items of a list for which so many steps are left.
+/// Returns how many bytes are left after `count` items of a list for which `steps` steps are left.
 #[cycle(judge)]
 #[inline(never)]
 fn judge_items(steps: usize, count: u64, bytes: &[u8], stop: &mut Stop) -> Option<usize>
@@ -108,7 +108,7 @@ fn judge_items(steps: usize, count: u64, bytes: &[u8], stop: &mut Stop) -> Optio
     Some(rest.len())
 }
 
-/// How many bytes are left after so many entries of a map for which so many steps are left.
+/// Returns how many bytes are left after `count` entries of a map for which `steps` steps are left.
 #[cycle(judge)]
 #[inline(never)]
 fn judge_entries(steps: usize, count: u64, bytes: &[u8], stop: &mut Stop) -> Option<usize>

@@ -3,7 +3,7 @@
 ghost use Rattle.std.specs.Prelude.{◌≡◌};
 ghost use Rattle.dagcbor_decode.specs.TreeKinds.{IsKindAt, IsKindOfFront, kind_at};
 
-/// The kinds of data, as of an `Ipld`.
+/// The kinds of data, as in `Ipld`.
 #[derive(Clone, Copy, Debug, PartialEq, Eq)]
 pub enum Kind {
     Null,
@@ -16,7 +16,7 @@ pub enum Kind {
     Link,
 }
 
-/// The kind of the item with which the bytes begin.
+/// Returns the kind of the item with which the bytes begin.
 pub fn kind_of_front(bytes: &[u8]) -> Kind
     ensures { IsKindOfFront bytes.now result }
 {
@@ -26,7 +26,7 @@ pub fn kind_of_front(bytes: &[u8]) -> Kind
     }
 }
 
-/// The kind of the item that begins with the byte.
+/// Returns the kind of the item that begins with the byte.
 pub fn kind_at(first: u8) -> Kind
     ensures { IsKindAt first result }
 {

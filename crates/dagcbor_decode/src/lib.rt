@@ -1,5 +1,6 @@
-//! Whether bytes are a block of DAG-CBOR, and of which kind, or why not, and where: as one function,
-//! `decode` of `specs/Decode.antt`, says. No tree is built, and only links take memory.
+//! Decides whether bytes are a block of DAG-CBOR, and of which kind, or why not, and where, as one
+//! function, `decode` of `specs/Decode.antt`, defines it. No tree is built, and only links take
+//! memory.
 //!
 //! ```rust
 //! agree(check_slice(b"\x82\x39\x01\x2b\x61a")?, Kind::List)?;

@@ -1,4 +1,4 @@
-//! The links of an item that was judged. Nothing of it is tested again.
+//! Finds the links of an item that was judged, and tests none of its bytes again.
 
 ghost use Rattle.std.specs.Prelude.{◌≡◌, ◌<◌, ◌≤◌, ◌+◌, List, ℕ, [], ◌∷◌, length, drop, map, IsTrue};
 ghost use Rattle.std.specs.Prelude.{IfSome, IfOk, IfErr, ◌≢◌, MatchOption, MatchResult, if◌then◌else◌};
@@ -16,7 +16,7 @@ use ipld_tree::Cid;
 use std::alloc::{AllocError, Global};
 use std::convert::Infallible;
 
-/// The CID after the tag of links, and the bytes after it.
+/// Returns the CID after the tag of a link, and the bytes after it.
 fn split_link(bytes: &[u8]) -> (Cid, &[u8])
     requires { (cid : List ℕ) × (rest : List ℕ) × SplitsCid bytes.now cid rest }
     ensures { SplitsCid bytes.now (cid_bytes result.0) result.1.now }
@@ -34,7 +34,7 @@ fn split_link(bytes: &[u8]) -> (Cid, &[u8])
     (cid, rest)
 }
 
-/// The bytes after the string of a head, if it is one of a string.
+/// Returns the bytes after what a head announces: a string's payload, else nothing.
 #[inline(always)]
 fn after_string(major: u8, argument: u64, more: &[u8]) -> &[u8]
     requires { IsTrue (is_string major) → argument ≤ length more.now }
@@ -46,8 +46,8 @@ fn after_string(major: u8, argument: u64, more: &[u8]) -> &[u8]
     more
 }
 
-/// The first link of items in a row, and the bytes after it. Of lists and maps only the heads are
-/// looked at, as their parts follow them.
+/// Returns the first link of items in a row, and the bytes after it. Of lists and maps only the
+/// heads are looked at, because their parts follow.
 pub fn next_link(items: &[u8]) -> Option<(Cid, &[u8])>
     requires { (links : List (List ℕ)) × HoldsLinks items.now links }
     ensures link { (links : List (List ℕ)) → HoldsLinks items.now links
@@ -66,7 +66,7 @@ pub fn next_link(items: &[u8]) -> Option<(Cid, &[u8])>
     None
 }
 
-/// The links of items in a row, which are refused for want of memory alone.
+/// Returns the links of items in a row. It is refused only if memory runs out.
 pub fn links_of_items(alloc: Global, items: &[u8]) -> Result<Vec<Cid>, AllocError>
     requires { (links : List (List ℕ)) × HoldsLinks items.now links }
     ensures links { (links : List (List ℕ)) → HoldsLinks items.now links
@@ -83,7 +83,7 @@ pub fn links_of_items(alloc: Global, items: &[u8]) -> Result<Vec<Cid>, AllocErro
     Ok(links)
 }
 
-/// The bytes of the first item. What follows it is not looked at.
+/// Returns the bytes of the first item. Bytes after it are not looked at.
 pub fn first_item(bytes: &[u8]) -> Result<&[u8], DecodeError<Infallible>>
     ensures { MatchResult result (λ item. IsFirstItem bytes.now item.now)
         (λ e. IsRefusal (decode_first bytes.now) e) }
@@ -95,7 +95,7 @@ pub fn first_item(bytes: &[u8]) -> Result<&[u8], DecodeError<Infallible>>
     Ok(bytes.split_at(bytes.len() - rest.len()).0)
 }
 
-/// The links of the first item of the bytes. What follows it is not looked at.
+/// Returns the links of the first item of the bytes. Bytes after it are not looked at.
 ///
 /// ```rust
 /// let links = links_from_slice(alloc, link)?;

@@ -1,5 +1,5 @@
-//! The parts of an item one by one, as `Decode.antt` has them: which of them is refused, why and
-//! where. The judge comes here where it finds no item.
+//! Reads the parts of an item one by one, as `Decode.antt` does, to find which of them is refused,
+//! why and where. The judge calls this if it finds no item.
 
 ghost use Rattle.std.specs.Prelude.{◌≡◌, ◌^◌, option_map, length};
 ghost use Rattle.std.specs.Int.{w8, w16, w32, w64};
@@ -13,7 +13,7 @@ use crate::cid::is_cid;
 use crate::text::is_text;
 use ipld_tree::comes_before;
 
-/// The next n bytes.
+/// Returns the next n bytes, and the bytes after them.
 #[inline(always)]
 fn payload(label: Label, n: u64, bytes: &[u8]) -> Result<(&[u8], &[u8]), Stop>
     ensures { told (λ s. s.now) result ≡ payload (name label) n bytes.now }
@@ -27,7 +27,7 @@ fn payload(label: Label, n: u64, bytes: &[u8]) -> Result<(&[u8], &[u8]), Stop>
     Ok(bytes.split_at(n as usize))
 }
 
-/// The argument, where it is not below the least.
+/// Returns the argument, or refuses it if it is below the least.
 #[inline(always)]
 fn at_least(label: Label, first: u8, least: u64, n: u64, rest: &[u8]) -> Result<(u64, &[u8]), Stop>
     ensures { told (λ n. n) result ≡ at_least (name label) first least n rest.now }
@@ -105,7 +105,7 @@ fn eight(label: Label, first: u8, bytes: &[u8]) -> Result<(u64, &[u8]), Stop>
     }
 }
 
-/// The argument of the head that begins with this byte.
+/// Returns the argument of the head that begins with this byte, and the bytes after the head.
 #[inline(always)]
 fn argument_of(label: Label, first: u8, bytes: &[u8]) -> Result<(u64, &[u8]), Stop>
     ensures { told (λ n. n) result ≡ argument_of (name label) first bytes.now }
@@ -149,7 +149,7 @@ fn text_of(label: Label, first: u8, bytes: &[u8]) -> Result<(&[u8], &[u8]), Stop
     Ok((s, rest))
 }
 
-/// Whether the key may come after the one before it.
+/// Returns whether the key may come after the previous one.
 #[inline(always)]
 pub fn follows(previous: &Option<&[u8]>, key: &[u8]) -> bool
     ensures { result ≡ follows (option_map (λ s. s.now) previous.now) key.now }
@@ -198,7 +198,7 @@ fn no_cid(rest: &[u8]) -> Stop
     }
 }
 
-/// The bytes after a zero and a CID.
+/// Returns `rest`, if the payload is a zero and a CID.
 #[inline(always)]
 fn zero_and_cid<'b>(payload: &[u8], rest: &'b [u8]) -> Result<&'b [u8], Stop>
     ensures { rest_of result ≡ skim (zero_and_cid payload.now rest.now) }
@@ -333,7 +333,7 @@ fn leaf_of(first: u8, bytes: &[u8]) -> Result<&[u8], Stop>
     }
 }
 
-/// The bytes after the head of a list or a map, if steps are left for what is in it.
+/// Returns the bytes after the head of a list or a map, if steps are left for what is in it.
 #[inline(always)]
 fn count_of(label: Label, steps: usize, first: u8, bytes: &[u8]) -> Result<&[u8], Stop>
     ensures { rest_of result ≡ skim (count_of (name label) steps first bytes.now) }
@@ -347,7 +347,7 @@ fn count_of(label: Label, steps: usize, first: u8, bytes: &[u8]) -> Result<&[u8]
     number_of(label, first, bytes)
 }
 
-/// The bytes after an item that has no others in it, or after the head of a list or a map.
+/// Returns the bytes after a leaf, or after the head of a list or a map.
 pub(crate) fn front_of(steps: usize, bytes: &[u8]) -> Result<&[u8], Stop>
     ensures { rest_of result ≡ front_of steps bytes.now }
 {

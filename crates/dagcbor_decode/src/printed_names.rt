@@ -6,7 +6,7 @@ ghost use Rattle.dagcbor_decode.specs.PrintedNames.{kind_name, variant_name};
 use crate::kind::Kind;
 use dagcbor_core::DecodeError;
 
-/// The name of the kind.
+/// Returns the name of the kind.
 pub fn kind_name(kind: Kind) -> &'static str
     ensures { result.now ≡ kind_name kind }
 {
@@ -22,7 +22,7 @@ pub fn kind_name(kind: Kind) -> &'static str
     }
 }
 
-/// The name of the refusal's variant.
+/// Returns the name of the refusal's variant.
 pub fn variant_name<E>(refusal: &DecodeError<E>) -> &'static str
     ensures { result.now ≡ variant_name refusal.now }
 {

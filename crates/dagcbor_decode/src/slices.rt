@@ -1,4 +1,4 @@
-//! Whether a slice is a block, of which kind, and why not, and where.
+//! Decides whether a slice is a block, and of which kind, or why not, and where.
 
 ghost use Rattle.std.specs.Prelude.{◌≡◌, Err, IfOk};
 ghost use Rattle.ipld_tree.specs.Tree.{Tree};
@@ -14,15 +14,15 @@ use crate::kind::{Kind, kind_of_front};
 use dagcbor_core::{DEFAULT_STEPS, DecodeError};
 use std::convert::Infallible;
 
-/// Why bytes are not a block, and where. Of the bytes before `place` only missing bytes are told; with
-/// the next byte the cause stands.
+/// Why bytes are not a block, and where. The bytes before `place`, taken alone, are refused only
+/// for missing bytes; the next byte brings the cause.
 #[derive(Debug, Drop)]
 pub struct Refused {
     pub cause: DecodeError<Infallible>,
     pub place: usize,
 }
 
-/// The kind of the data whose spelling is these bytes. Nothing is built, and no memory is taken.
+/// Returns the kind of the data whose spelling is these bytes. Builds no tree, and takes no memory.
 ///
 /// ```rust
 /// agree(check_slice(b"\x82\x39\x01\x2b\x61a")?, Kind::List)?;
@@ -39,7 +39,7 @@ pub fn check_slice(bytes: &[u8]) -> Result<Kind, DecodeError<Infallible>>
     }
 }
 
-/// The kind of a block, as `check_slice` answers it, or why the bytes are not a block, and where.
+/// Returns the kind of a block, as `check_slice`, or why the bytes are not a block, and where.
 ///
 /// ```rust
 /// let Err(refused) = judge_slice(b"\x82\x01\x18\x17") else {
@@ -59,8 +59,8 @@ pub fn judge_slice(bytes: &[u8]) -> Result<Kind, Refused>
     }
 }
 
-/// The kind of a block. Its callers have room for a refusal, which is cleared at each call; so it is
-/// a function apart.
+/// Returns the kind of a block. It is a separate function, because its callers have room for a
+/// refusal, which is cleared at each call.
 #[inline(never)]
 fn judge_block(bytes: &[u8], stop: &mut Stop) -> Option<Kind>
     ensures { kind_or result stop.new ≡ kind_told (decode bytes.now) }
@@ -76,7 +76,7 @@ fn judge_block(bytes: &[u8], stop: &mut Stop) -> Option<Kind>
     None
 }
 
-/// The refusal of bytes at which the judge stops.
+/// Returns the refusal of bytes at which the judge stopped, with its place.
 fn refused_at(bytes: &[u8], stop: Stop) -> Refused
     ensures { judged (Err result) ≡ verdict bytes.now (refused (why stop.cause) stop.left) }
 {

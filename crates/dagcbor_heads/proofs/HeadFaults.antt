@@ -14,7 +14,7 @@ use Rattle.dagcbor_core.proofs.HeadForms.{Begins, begins, small_head, wide_head}
 use Rattle.dagcbor_heads.proofs.Refusing.{passed_on, byte_in_head}
 use Rattle.dagcbor_heads.proofs.Taking.{takes_both, stays}
 
--- where a head stands, a byte stands
+-- if a head is at the front, a byte is
 pub head_has_byte : {r : Reading} → HasHead r → HasByte r
 head_has_byte h =
     let f = head_first h.major h.argument h.argument_fits in
@@ -23,7 +23,7 @@ head_has_byte h =
 pub first_refused : {E : Type 0} (old new : Reading) (e : DecodeError E) → RefusesPlainly (HasByte old) ByteCause old e new → RefusesPlainly (HasHead old) HeadCause old e new
 first_refused old new e r = passed_on ByteCause HeadCause old old new e (stays old) head_has_byte (λ x. x) (λ x. x) (λ b l. (b, l, byte_in_head e b)) r
 
--- what the first byte says of the head that stands there
+-- what the first byte of the head at the front determines
 pub head_begins : {old mid : Reading} {first : ℕ} → Takes old (first ∷ []) mid → (h : HasHead old) → (more : List ℕ) × (mid.left ≡ Some more) × Begins first more h.major h.argument h.rest
 head_begins {old} {mid} {first} t h =
     let k = t.taken _ h.left in

@@ -59,7 +59,7 @@ looks_both {times} {before} {old} {mid} {new} h k = record {
   none_shown = k.none_shown;
 }
 
--- some bytes, perhaps none, after those that were taken
+-- some bytes, or no byte, after those that were taken
 pub looks_more : {times before : ℕ} {old mid new : Reading} → LooksAtTaken times before old mid → LooksAtSome times mid new → LooksAtTaken times before old new
 looks_more {times} {before} {old} {mid} {new} h k = record {
   grows = omega (arith, h.grows, k.grows);

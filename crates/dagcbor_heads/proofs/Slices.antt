@@ -1,4 +1,4 @@
--- What stands whole at the front of a slice, and is taken at once.
+-- What is whole at the front of a slice, and is taken at once.
 use Rattle.std.proofs.Common.{◌≡◌, ℕ, ◌+◌, ◌/◌, ◌<◌, ◌≤◌, ◌^◌, List, [], ◌∷◌, ◌++◌, length, take, drop, sym, ap, ap₂, ◌∙◌, subst, arith, length-append, append_assoc, take-append-drop, Some}
 use Rattle.dagcbor_core.specs.Head.{head}
 use Rattle.dagcbor_core.specs.Splits.{SplitsHead}

@@ -15,7 +15,7 @@ stays_both h k = record { steps = k.steps ∙ h.steps; budget = k.budget ∙ h.b
 
 -- ---- what is shown
 
--- a beginning that is shown goes on to the whole
+-- the bytes that are shown, followed by the others, are the whole
 pub shown_whole : (b shown : List ℕ) → take (length shown) b ≡ shown → b ≡ shown ++ drop (length shown) b
 shown_whole b shown e = sym (take-append-drop (length shown) b) ∙ ap (λ s. s ++ drop (length shown) b) e
 
@@ -67,7 +67,7 @@ takes_both {old} {mid} {new} {a} {b} h k = record {
 pub nothing_taken : (r : Reading) → Takes r [] r
 nothing_taken r = record { taken = λ b l. (b, refl, l); same = stays r }
 
--- what one fill brought of a payload
+-- the part of a payload that one fill brought
 pub fill_gathers : {old mid new : Reading} {want n : ℕ} {before after : List ℕ} → Shows old want mid → n ≡ min want (length mid.shown) → after ≡ before ++ take n mid.shown → Advances mid n new
     → Gathers old before want n after new
 fill_gathers {old} {mid} {new} {want} {n} h is behind a = record {

@@ -16,7 +16,7 @@ use Rattle.dagcbor_core.proofs.HeadForms.{begins}
 use Rattle.dagcbor_heads.proofs.Slices.{head_short}
 use Rattle.dagcbor_heads.proofs.Taking.{shown_whole, take_of_shown}
 
--- ---- what is told
+-- ---- what is known of the bytes
 
 both : (a b : Bool) → (a && b) ≡ true → (a ≡ true) × (b ≡ true)
 both true b e = (refl, e)

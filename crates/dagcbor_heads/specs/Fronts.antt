@@ -1,15 +1,15 @@
--- What stands at the front of the bytes that a reader has left, and what a call takes from there.
+-- What is at the front of the bytes that a reader has left, and what a call takes from there.
 use Rattle.std.specs.Prelude.{◌≡◌, ℕ, ◌/◌, ◌^◌, ◌+◌, ◌<◌, ◌≤◌, List, [], ◌∷◌, ◌++◌, length, Some}
 use Rattle.dagcbor_core.specs.Head.{head}
 use Rattle.dagcbor_heads.specs.Reading.{Reading, Keeps, Stays}
 
--- some byte stands at the front
+-- a byte is at the front
 pub record HasByte (r : Reading) : Type 0 where
   pub byte : ℕ
   pub rest : List ℕ
   pub left : r.left ≡ Some (byte ∷ rest)
 
--- some head stands at the front
+-- a head is at the front
 pub record HasHead (r : Reading) : Type 0 where
   pub major : ℕ
   pub argument : ℕ
@@ -18,37 +18,37 @@ pub record HasHead (r : Reading) : Type 0 where
   pub argument_fits : argument < 2 ^ 64
   pub left : r.left ≡ Some (head major argument ++ rest)
 
--- n bytes stand at the front
+-- n bytes are at the front
 pub record HasPayload (n : ℕ) (r : Reading) : Type 0 where
   pub payload : List ℕ
   pub rest : List ℕ
   pub long : length payload ≡ n
   pub left : r.left ≡ Some (payload ++ rest)
 
--- known bytes begin with this byte
+-- the bytes left, if known, begin with this byte
 abbrev pub StartsWith : Reading → ℕ → Type 0
 StartsWith r byte = (b : List ℕ) → r.left ≡ Some b → (more : List ℕ) × (b ≡ byte ∷ more)
 
--- this byte stands at the front, and stays there
+-- this byte is at the front, and was not taken
 pub record ShowsByte (old : Reading) (byte : ℕ) (new : Reading) : Type 0 where
   pub starts : StartsWith old byte
   pub still : StartsWith new byte
   pub kept : Keeps old new
   pub same : Stays old new
 
--- no byte is left
+-- no byte was left
 pub record FindsEnd (old new : Reading) : Type 0 where
   pub none_left : (b : List ℕ) → old.left ≡ Some b → b ≡ []
   pub kept : Keeps old new
   pub same : Stays old new
 
--- these bytes stood at the front, and were taken
+-- these bytes were at the front, and were taken
 pub record Takes (old : Reading) (bytes : List ℕ) (new : Reading) : Type 0 where
   pub taken : (b : List ℕ) → old.left ≡ Some b → (rest : List ℕ) × (b ≡ bytes ++ rest)
       × (new.left ≡ Some rest)
   pub same : Stays old new
 
--- so many bytes stood at the front, and were taken, each looked at once and none after them shown
+-- n bytes at the front were taken; each counts as one look, and no byte after them is shown
 pub record TakesSome (n : ℕ) (old new : Reading) : Type 0 where
   pub bytes : List ℕ
   pub counted : length bytes ≡ n
@@ -56,7 +56,7 @@ pub record TakesSome (n : ℕ) (old new : Reading) : Type 0 where
   pub looked : new.looked ≡ old.looked + n
   pub none_shown : new.shown ≡ []
 
--- this head stood at the front, with this first byte, and was taken
+-- this head was at the front, with this first byte, and was taken
 pub record TakesHead (old : Reading) (major argument first : ℕ) (new : Reading) : Type 0 where
   pub major_fits : major < 8
   pub argument_fits : argument < 2 ^ 64
@@ -64,8 +64,8 @@ pub record TakesHead (old : Reading) (major argument first : ℕ) (new : Reading
   pub starts : StartsWith old first
   pub takes : Takes old (head major argument) new
 
--- some bytes were taken, at most as many as were wanted, and put after those that were gathered
--- before: none only at the end
+-- at most `want` bytes were taken and appended to those gathered before; no byte was taken only at
+-- the end
 pub record Gathers (old : Reading) (before : List ℕ) (want count : ℕ) (after : List ℕ) (new : Reading) : Type 0 where
   pub bytes : List ℕ
   pub counted : length bytes ≡ count

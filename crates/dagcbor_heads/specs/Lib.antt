@@ -1,4 +1,4 @@
--- handed on from the crate below
+-- re-exported from the crate below
 pub use Rattle.dagcbor_core.specs.Head
 pub use Rattle.dagcbor_core.specs.Laws
 pub use Rattle.dagcbor_core.specs.Splits

@@ -2,19 +2,19 @@
 use Rattle.std.specs.Prelude.{◌≡◌, ℕ, ◌+◌, ◌*◌, ◌≤◌, List, [], length, Some, Result, MatchResult}
 use Rattle.dagcbor_heads.specs.Reading.{Reading}
 
--- at most n looks, whether or not the bytes left are known
+-- at most n bytes were looked at, whether or not the bytes left are known
 abbrev pub LooksAtMost : ℕ → Reading → Reading → Type 0
 LooksAtMost n old new = new.looked ≤ old.looked + n
 
--- at most one byte, and none at the end
+-- at most one byte was looked at, and no byte at the end
 pub record LooksOnce (old new : Reading) : Type 0 where
   pub grows : old.looked ≤ new.looked
   pub one : LooksAtMost 1 old new
   pub left : (b : List ℕ) → old.left ≡ Some b → new.looked ≤ old.looked + length b
 
--- n bytes were taken, and at most so many times n looked at, counted with those that were looked at
--- before the call. None is shown then: no byte after those that were taken was asked for, whether
--- or not the bytes left are known.
+-- n bytes were taken. At most `times` times n were looked at, including `before` looks made before
+-- the call. No byte is shown now: no byte after those taken was asked for, whether or not the bytes
+-- left are known.
 pub record LooksAtTaken (times before : ℕ) (old new : Reading) : Type 0 where
   pub grows : old.looked ≤ new.looked
   pub most : (b : List ℕ) → old.left ≡ Some b
@@ -22,8 +22,8 @@ pub record LooksAtTaken (times before : ℕ) (old new : Reading) : Type 0 where
       × (before + new.looked ≤ old.looked + times * n)
   pub none_shown : new.shown ≡ []
 
--- n bytes were taken, where n may be 0, and at most so many times n looked at; where none was shown
--- before, none is shown then
+-- n bytes were taken, where n may be 0, and at most `times` times n were looked at. If no byte was
+-- shown before, no byte is shown now.
 pub record LooksAtSome (times : ℕ) (old new : Reading) : Type 0 where
   pub grows : old.looked ≤ new.looked
   pub most : (b : List ℕ) → old.left ≡ Some b
@@ -31,23 +31,23 @@ pub record LooksAtSome (times : ℕ) (old new : Reading) : Type 0 where
       × (new.looked ≤ old.looked + times * n)
   pub none_shown : old.shown ≡ [] → new.shown ≡ []
 
--- at most so many times as many as were left, counted with those that were looked at before the
--- call
+-- at most `times` times as many bytes were looked at as were left, including `before` looks made
+-- before the call
 pub record LooksAtLeft (times before : ℕ) (old new : Reading) : Type 0 where
   pub grows : old.looked ≤ new.looked
   pub most : (b : List ℕ) → old.left ≡ Some b → before + new.looked ≤ old.looked + times * length b
 
--- whether it is answered or refused, at most so many times as many were looked at as were left
+-- A call that returns `Ok` looks as in `LooksAtTaken`, one that refuses as in `LooksAtLeft`.
 abbrev pub LooksBehind : {T E : Type 0} → (times before : ℕ) → Reading → Result T E → Reading
     → Type 0
 LooksBehind times before old result new = MatchResult result (λ _. LooksAtTaken times before old new) (λ _. LooksAtLeft times before old new)
 
--- An answer looks at most so many times at each byte that it takes, a refusal at each that was
--- left.
+-- A call that returns `Ok` looks at most `times` times at each byte that it takes, a refused one at
+-- each byte that was left.
 abbrev pub Looks : {T E : Type 0} → (times : ℕ) → Reading → Result T E → Reading → Type 0
 Looks times = LooksBehind times 0
 
--- An answer, which may have taken no byte, looks at most so many times at each that it takes, a
--- refusal at each that was left.
+-- A call that returns `Ok`, and may have taken no byte, looks at most `times` times at each byte
+-- that it takes, a refused one at each byte that was left.
 abbrev pub LooksSome : {T E : Type 0} → (times : ℕ) → Reading → Result T E → Reading → Type 0
 LooksSome times old result new = MatchResult result (λ _. LooksAtSome times old new) (λ _. LooksAtLeft times 0 old new)

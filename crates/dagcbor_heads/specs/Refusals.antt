@@ -7,19 +7,19 @@ use Rattle.dagcbor_core.specs.declared.error.DecodeError.TheVariants.{Read, Requ
 
 -- What a call may be refused for.
 pub record MayRefuse (E : Type 0) : Type 1 where
-  -- where the call can answer, and so names no cause in the bytes
+  -- whether the call can answer: if so, it is not refused for a cause in the bytes
   pub could : Type 0
-  -- where memory may be wanting
+  -- whether the call may run out of memory
   pub lacks : Type 0
-  -- where the call may ask for a loan
+  -- whether the call may ask for a loan
   pub borrows : Type 0
-  -- the cause of this refusal stands at the front of these bytes
+  -- whether the cause of this refusal is at the front of these bytes
   pub stands : DecodeError E → List ℕ → Type 0
 
--- A refusal is one of these: a fault of the source, which was counted; want of memory, where some
--- may be wanting; want of a loan, where the call may ask for one and the reader does not lend; or
--- else one that comes only where the call could not answer, and whose cause stands at the front of
--- the bytes left (where it is the depth, no step is left).
+-- A refusal is one of these: a fault of the source, which was counted; out of memory, if the call
+-- may run out of it; no loan, if the call may ask for one and the reader does not lend; or a cause
+-- at the front of the bytes left, if the call could not answer. If that cause is the depth, no step
+-- is left.
 abbrev pub Refuses : {E : Type 0} → MayRefuse E → Reading → DecodeError E → Reading → Type 0
 Refuses may old (Read e) new = old.faults < new.faults
 Refuses may old OutOfMemory new = (new.faults ≡ old.faults) × may.lacks
@@ -31,19 +31,19 @@ Refuses may old (DepthOverflow name) new = (new.faults ≡ old.faults) × (¬ ma
 Refuses may old e new = (new.faults ≡ old.faults) × (¬ may.could)
     × ((b : List ℕ) → old.left ≡ Some b → may.stands e b)
 
--- what a call refuses that takes no memory and wants no loan
+-- the refusals of a call that takes no memory and wants no loan
 abbrev pub RefusesPlainly : {E : Type 0} → (could : Type 0) → (DecodeError E → List ℕ → Type 0)
     → Reading → DecodeError E → Reading → Type 0
 RefusesPlainly could stands = Refuses
     (record { could = could; lacks = ⊥; borrows = ⊥; stands = stands })
 
--- what a call refuses that may lack memory and wants no loan
+-- the refusals of a call that may run out of memory and wants no loan
 abbrev pub RefusesOrLacksMemory : {E : Type 0} → (could : Type 0)
     → (DecodeError E → List ℕ → Type 0) → Reading → DecodeError E → Reading → Type 0
 RefusesOrLacksMemory could stands = Refuses
     (record { could = could; lacks = ⊤; borrows = ⊥; stands = stands })
 
--- what a call refuses that wants no loan, and may lack memory where the reader does not lend
+-- the refusals of a call that wants no loan, and may run out of memory if the reader does not lend
 abbrev pub RefusesOrLacksMemoryUnlent : {E : Type 0} → (could : Type 0)
     → (DecodeError E → List ℕ → Type 0) → Reading → DecodeError E → Reading → Type 0
 RefusesOrLacksMemoryUnlent could stands old = Refuses
@@ -56,7 +56,7 @@ pub record NoStep {E : Type 0} (text : List ℕ) (old : Reading) (e : DecodeErro
   pub same : new ≡ old
   pub named : IsDepthNamed text e
 
--- A step is spent exactly where one is left.
+-- A step is spent if and only if one is left.
 abbrev pub SpendsStep : {E : Type 0} → List ℕ → Reading → Result (Unit {0}) (DecodeError E)
     → Reading → Type 0
 SpendsStep text old result new = MatchResult result (λ _. SpentStep old new)

@@ -20,7 +20,7 @@ pub enum Input<'de, R> {
 impl<'de, R: Read> Input<'de, R> {
     ghost use Rattle.dagcbor_heads.specs.declared.input.Input.TheVariants.{Reader};
 
-    /// The bytes that are shown: `Long` exactly of a slice.
+    /// Returns the bytes that are shown: `Long` if the input is a slice, else `Short`.
     pub fn shown(&self) -> Reference<'de, '_>
         ensures bytes { reference_bytes result ≡ (input_reading R.reading self.now).shown }
         ensures lends { is_long result ≡ (input_reading R.reading self.now).lends }
@@ -31,8 +31,8 @@ impl<'de, R: Read> Input<'de, R> {
         }
     }
 
-    /// The bytes that are left, if the input is a slice. Nothing is taken, and nothing counted. A
-    /// caller that has looked at them takes by `lend` those that it then knows.
+    /// Returns the bytes that are left, if the input is a slice. Nothing is taken or counted. A
+    /// caller that has looked at them can take them by `lend`.
     #[inline(always)]
     pub fn rest(&self) -> Option<&'de [u8]>
         ensures bytes { IfSome result
@@ -45,8 +45,8 @@ impl<'de, R: Read> Input<'de, R> {
         }
     }
 
-    /// Takes the next n bytes and lends them, if the input is a slice that has so many. Else
-    /// nothing is taken.
+    /// Takes the next n bytes and lends them, if the input is a slice that has n bytes left. Else
+    /// takes nothing.
     #[inline(always)]
     pub fn lend(&mut self, n: u64) -> Option<&'de [u8]>
         ensures lent { MatchOption result
@@ -65,8 +65,8 @@ impl<'de, R: Read> Input<'de, R> {
     }
 
     /// Takes the string of this major type at the front, with its head, and lends its bytes, if the
-    /// input is a slice that has all of them. Else nothing is taken, and nothing counted, as in
-    /// `take_string` of `SliceReader`.
+    /// input is a slice that has all of them. Else takes and counts nothing, as `take_string` of
+    /// `SliceReader`.
     #[inline(always)]
     pub fn take_string(&mut self, kind: u8) -> Option<&'de [u8]>
         ensures taken { MatchOption result
@@ -86,14 +86,14 @@ impl<'de, R: Read> Input<'de, R> {
         }
     }
 
-    /// The reader, if it is not a slice.
+    /// Returns the reader, or `None` if the input is a slice.
     pub fn into_reader(self) -> Option<R>
         ensures { MatchOption result ((input_reading R.reading self.entry).lends ≡ true)
             (λ r. self.entry ≡ Reader r) }
     {
         match self {
             Input::Slice(reader) => {
-                // No effect at run time. The proof reads from this use that a slice lends.
+                // No effect at run time. From this use the proof knows that a slice lends.
                 let _ = reader.long();
                 None
             }

@@ -13,8 +13,9 @@ use std::io::BufRead;
 use std::marker::Model;
 
 /// A reader over a buffered source. It takes no byte early: the bytes shown are copies of bytes
-/// that the source still has. The source loses those that were taken when it is asked for more, in
-/// `into_inner`, and when the reader is dropped. An interrupted call is a fault like any other.
+/// that the source still has. The bytes taken are consumed from the source when it is asked for
+/// more, in `into_inner`, and when the reader is dropped. An interrupted call is a fault like any
+/// other.
 pub struct IoReader<R: BufRead> {
     source: R,
     window: Window,
@@ -42,14 +43,14 @@ impl<R: BufRead> Model for IoReader<R> {
 }
 
 impl<R: BufRead> IoReader<R> {
-    /// A reader over the source, with a budget of `DEFAULT_STEPS`.
+    /// Returns a reader over the source, with a budget of `DEFAULT_STEPS`.
     pub fn new(source: R) -> IoReader<R>
         ensures { result ≡ fresh_reading (R.remaining source) default_steps false [] }
     {
         IoReader::with_depth(source, DEFAULT_STEPS)
     }
 
-    /// A reader over the source, with a budget of so many steps.
+    /// Returns a reader over the source, with a budget of `steps`, at most 1,024.
     pub fn with_depth(source: R, steps: usize) -> IoReader<R>
         requires { steps ≤ 1024 }
         ensures { result ≡ fresh_reading (R.remaining source) steps false [] }
@@ -61,7 +62,7 @@ impl<R: BufRead> IoReader<R> {
         }
     }
 
-    /// The source, without exactly the bytes that were taken.
+    /// Returns the source, which has lost exactly the bytes that were taken.
     pub fn into_inner(self) -> R
         ensures { (b : List ℕ) → self.left ≡ Some b → R.remaining result ≡ Some b }
     {

@@ -1,4 +1,4 @@
-//! A reader over a buffered source that is lent.
+//! A reader over a borrowed buffered source.
 
 ghost use Rattle.std.specs.Prelude.{◌≡◌, ◌≤◌, ◌∷◌, [], false, List, ℕ, Some};
 ghost use Rattle.dagcbor_core.specs.Steps.{default_steps};
@@ -12,8 +12,8 @@ use std::io;
 use std::io::BufRead;
 use std::marker::Model;
 
-/// A reader over a buffered source that is lent, as `IoReader` over one of its own. Contracts see
-/// through which reference it reads, so that a caller knows what its source has left.
+/// A reader over a borrowed buffered source, otherwise as `IoReader`. Contracts see through which
+/// reference it reads, so that a caller knows what its source has left.
 pub struct IoRefReader<'r, R: BufRead> {
     source: &'r mut R,
     window: Window,
@@ -41,7 +41,7 @@ impl<'r, R: BufRead> Model for IoRefReader<'r, R> {
 }
 
 impl<'r, R: BufRead> IoRefReader<'r, R> {
-    /// A reader over the source, with a budget of `DEFAULT_STEPS`.
+    /// Returns a reader over the source, with a budget of `DEFAULT_STEPS`.
     pub fn new(source: &'r mut R) -> IoRefReader<'r, R>
         ensures { result ≡ fresh_reading (R.remaining source.old) default_steps false
             (source.entry.ghost_name ∷ []) }
@@ -49,7 +49,7 @@ impl<'r, R: BufRead> IoRefReader<'r, R> {
         IoRefReader::with_depth(source, DEFAULT_STEPS)
     }
 
-    /// A reader over the source, with a budget of so many steps.
+    /// Returns a reader over the source, with a budget of `steps`, at most 1,024.
     pub fn with_depth(source: &'r mut R, steps: usize) -> IoRefReader<'r, R>
         requires { steps ≤ 1024 }
         ensures { result ≡ fresh_reading (R.remaining source.old) steps false
@@ -62,7 +62,7 @@ impl<'r, R: BufRead> IoRefReader<'r, R> {
         }
     }
 
-    /// The source, without exactly the bytes that were taken.
+    /// Returns the source, which has lost exactly the bytes that were taken.
     pub fn into_inner(self) -> &'r mut R
         ensures reference { self.entry.through ≡ result.ghost_name ∷ [] }
         ensures left { (b : List ℕ) → self.entry.left ≡ Some b → R.remaining result.now ≡ Some b }

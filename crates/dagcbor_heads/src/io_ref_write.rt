@@ -1,4 +1,4 @@
-//! A writer over any writer of std that is lent.
+//! A writer over a borrowed writer of std.
 
 ghost use Rattle.std.specs.Prelude.{◌≡◌, ◌∷◌, [], false};
 
@@ -9,8 +9,8 @@ use dagcbor_core::EncodeError;
 use std::io;
 use std::marker::Model;
 
-/// A writer over a device that is lent, as `IoWriter` over one of its own. Contracts see through
-/// which reference it writes, so that a caller knows what its device holds.
+/// A writer over a borrowed device, otherwise as `IoWriter`. Contracts see through which reference
+/// it writes, so that a caller knows what its device holds.
 #[derive(Drop)]
 pub struct IoRefWriter<'w, W: io::Write> {
     device: &'w mut W,
@@ -27,7 +27,7 @@ impl<'w, W: io::Write> Model for IoRefWriter<'w, W> {
 }
 
 impl<'w, W: io::Write> IoRefWriter<'w, W> {
-    /// A writer to a device that is lent, and has not faulted yet.
+    /// Returns a writer to the borrowed device, with no fault counted yet.
     pub fn new(device: &'w mut W) -> IoRefWriter<'w, W>
         ensures { result ≡ record {
           bytes = W.contents device.old;
@@ -41,7 +41,7 @@ impl<'w, W: io::Write> IoRefWriter<'w, W> {
         }
     }
 
-    /// The device, with what was written.
+    /// Returns the device, with what was written.
     pub fn into_inner(self) -> &'w mut W
         ensures reference { self.entry.through ≡ result.ghost_name ∷ [] }
         ensures bytes { W.contents result.now ≡ self.entry.bytes }

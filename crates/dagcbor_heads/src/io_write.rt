@@ -11,8 +11,9 @@ use std::io;
 use std::io::ErrorKind;
 use std::marker::Model;
 
-/// A writer over a device. A refused push leaves a beginning of the bytes there. A write that takes
-/// no byte of a rest is the fault `WriteZero`. Nothing is retried, not even an interrupted write.
+/// A writer over a device. A refused push may leave a beginning of the bytes there. A write that
+/// takes none of the remaining bytes is the fault `WriteZero`. Nothing is retried, not even an
+/// interrupted write.
 #[derive(Drop)]
 pub struct IoWriter<W: io::Write> {
     device: W,
@@ -29,7 +30,7 @@ impl<W: io::Write> Model for IoWriter<W> {
 }
 
 impl<W: io::Write> IoWriter<W> {
-    /// A writer to a device of its own, which has not faulted yet.
+    /// Returns a writer that owns the device, with no fault counted yet.
     pub fn new(device: W) -> IoWriter<W>
         ensures { result ≡ record { bytes = W.contents device; faults = 0; through = [] } }
     {
@@ -39,7 +40,7 @@ impl<W: io::Write> IoWriter<W> {
         }
     }
 
-    /// The device, with what was written.
+    /// Returns the device, with what was written.
     pub fn into_inner(self) -> W
         ensures { W.contents result ≡ self.bytes }
     {
@@ -60,7 +61,7 @@ impl<W: io::Write> Write for IoWriter<W> {
     }
 }
 
-/// Writes the bytes, as many in each call as the device takes, up to its first fault.
+/// Writes the bytes, in each call as many as the device takes, until its first fault.
 pub(crate) fn push_all<W: io::Write>(
     device: &mut W,
     faults: &mut Tally,
@@ -84,8 +85,8 @@ pub(crate) fn push_all<W: io::Write>(
     Ok(())
 }
 
-/// Writes at least one of the bytes, and answers how many. If the device takes none, that is a
-/// fault.
+/// Writes at least one of the bytes, and returns how many. If the device takes no byte, that is the
+/// fault `WriteZero`.
 fn write_some<W: io::Write>(device: &mut W, bytes: &[u8]) -> io::Result<usize>
     ensures some { IfOk result (λ n. (0 < n) × (n ≤ length bytes.now)) }
     ensures written { WriteAppends (W.contents device.old)

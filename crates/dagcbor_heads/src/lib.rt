@@ -1,4 +1,5 @@
-//! Readers and writers of bytes, heads of DAG-CBOR items by them, and the errors of `dagcbor_core`.
+//! Readers and writers of bytes, and the heads of DAG-CBOR items on them, with the errors of
+//! `dagcbor_core`.
 //!
 //! The beginning of a list of three items, whose first is 1 (`src/tests/writers.rt` of `tests_io`):
 //!

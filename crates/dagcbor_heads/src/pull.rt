@@ -24,14 +24,14 @@ use dagcbor_core::{DecodeError, Len, Name, least_argument};
 use std::alloc::{AllocError, Global};
 use std::borrow::CowSlice;
 
-/// Whether the first byte of an item announces an indefinite length, or is a break.
+/// Returns whether this first byte of an item announces an indefinite length, or is a break.
 pub fn is_indefinite(byte: u8) -> bool
     ensures { IsTrue result ↔ (byte % 32 ≡ 31) }
 {
     byte & 0x1f == 0x1f
 }
 
-/// The next byte, which is left, or nothing at the end.
+/// Returns the next byte without taking it, or `None` at the end.
 #[tactic(auto, using(crate::proofs::Taking::first_shown, crate::proofs::Looking::once_shown))]
 fn look<R: Read>(reader: &mut R) -> Result<Option<u8>, R::Error>
     ensures looked { LooksOnce (R.reading reader.old) (R.reading reader.new) }
@@ -46,7 +46,7 @@ fn look<R: Read>(reader: &mut R) -> Result<Option<u8>, R::Error>
     Ok(reader.shown().first().copied())
 }
 
-/// The next byte, which is taken, or nothing at the end.
+/// Takes and returns the next byte, or `None` at the end.
 fn next_byte<R: Read>(reader: &mut R) -> Result<Option<u8>, R::Error>
     ensures is_byte { IfOk result (λ found. IfSome found (λ byte. byte < 256)) }
     ensures taken { MatchResult result
@@ -70,7 +70,7 @@ fn next_byte<R: Read>(reader: &mut R) -> Result<Option<u8>, R::Error>
     }
 }
 
-/// Whether no byte is left. Nothing is taken.
+/// Returns whether no byte is left. Takes nothing.
 pub fn is_at_end<R: Read>(reader: &mut R) -> Result<bool, R::Error>
     ensures looked { LooksOnce (R.reading reader.old) (R.reading reader.new) }
     ensures end { MatchResult result
@@ -85,7 +85,7 @@ pub fn is_at_end<R: Read>(reader: &mut R) -> Result<bool, R::Error>
     }
 }
 
-/// The next byte, which is left.
+/// Returns the next byte without taking it. Refuses with `Eof` at the end.
 pub fn peek_one<R: Read>(name: &str, reader: &mut R) -> ReadResult<u8, R>
     ensures shown { MatchResult result
         (λ byte. ShowsByte (R.reading reader.old) byte (R.reading reader.new))
@@ -103,7 +103,7 @@ pub fn peek_one<R: Read>(name: &str, reader: &mut R) -> ReadResult<u8, R>
     }
 }
 
-/// The next byte, which is taken.
+/// Takes and returns the next byte. Refuses with `Eof` at the end.
 pub fn pull_one<R: Read>(name: &str, reader: &mut R) -> ReadResult<u8, R>
     ensures taken { MatchResult result
         (λ byte. Takes (R.reading reader.old) (byte ∷ []) (R.reading reader.new))
@@ -122,7 +122,7 @@ pub fn pull_one<R: Read>(name: &str, reader: &mut R) -> ReadResult<u8, R>
     }
 }
 
-/// How many bytes of argument an additional information from 24 to 27 announces.
+/// Returns how many bytes of argument this additional information, from 24 to 27, announces.
 fn argument_width(information: u8) -> u16
     requires low { 24 ≤ information }
     requires high { information ≤ 27 }
@@ -137,7 +137,7 @@ fn argument_width(information: u8) -> u16
     }
 }
 
-/// The number that the next bytes spell, the highest of them first. They are taken.
+/// Takes the next `width` bytes, and returns their big-endian number.
 #[tactic(auto, using(crate::proofs::Looking::some_then, crate::proofs::Looking::once_left))]
 fn pull_argument<R: Read>(name: &str, reader: &mut R, width: u16) -> ReadResult<u64, R>
     requires { width ≤ 8 }
@@ -162,7 +162,7 @@ fn pull_argument<R: Read>(name: &str, reader: &mut R, width: u16) -> ReadResult<
     Ok(argument)
 }
 
-/// The head of the next item: its major type, its argument and its first byte. It is taken.
+/// Takes the head of the next item, and returns its major type, its argument and its first byte.
 #[tactic(auto, using(crate::proofs::Refusing::end_named))]
 pub fn pull_head<R: Read>(name: &str, reader: &mut R) -> ReadResult<(u8, u64, u8), R>
     ensures taken { MatchResult result
@@ -195,7 +195,7 @@ pub fn pull_head<R: Read>(name: &str, reader: &mut R) -> ReadResult<(u8, u64, u8
     Ok((major, argument, first))
 }
 
-/// The argument of the next head, which is taken, byte by byte.
+/// Takes the next head byte by byte, and returns its argument.
 #[cold]
 #[inline(never)]
 fn pull_head_argument_slowly<R: Read>(name: &str, reader: &mut R) -> ReadResult<u64, R>
@@ -213,8 +213,8 @@ fn pull_head_argument_slowly<R: Read>(name: &str, reader: &mut R) -> ReadResult<
     Ok(argument)
 }
 
-/// The argument of the next head, which is taken. It is faster than `pull_head` if the major type
-/// is known from the first byte: it returns only a number.
+/// Takes the next head, and returns its argument. It is faster than `pull_head`, because it returns
+/// only a number. A caller uses it if it knows the major type from the first byte.
 #[inline(never)]
 pub fn pull_head_argument<R: Read>(name: &str, reader: &mut R) -> ReadResult<u64, R>
     ensures taken { MatchResult result
@@ -233,7 +233,7 @@ pub fn pull_head_argument<R: Read>(name: &str, reader: &mut R) -> ReadResult<u64
     pull_head_argument_slowly(name, reader)
 }
 
-/// Appends as many of the bytes as are wanted, and answers how many.
+/// Appends up to `want` of the bytes, and returns how many.
 fn append_front(payload: &mut Vec<u8>, bytes: &[u8], want: u64) -> Result<usize, AllocError>
     ensures count { IfOk result (λ n. n ≡ min want (length bytes.now)) }
     ensures grows { IfOk result (λ n. payload.new.items ≡ payload.old.items ++ take n bytes.now) }
@@ -243,8 +243,8 @@ fn append_front(payload: &mut Vec<u8>, bytes: &[u8], want: u64) -> Result<usize,
     Ok(count)
 }
 
-/// Moves some of the next bytes to the end of the payload, and answers how many: none only at the
-/// end.
+/// Moves up to `want` of the next bytes to the end of the payload, and returns how many: 0 only at
+/// the end.
 fn gather_some<R: Read>(reader: &mut R, payload: &mut Vec<u8>, want: u64) -> ReadResult<usize, R>
     requires { 0 < want }
     ensures gathered { MatchResult result
@@ -272,7 +272,7 @@ fn gather_some<R: Read>(reader: &mut R, payload: &mut Vec<u8>, want: u64) -> Rea
     }
 }
 
-/// The next n bytes, gathered in a vector that grows as they come. They are taken.
+/// Takes the next n bytes, gathered in a vector that grows as they come.
 #[tactic(auto, using(crate::proofs::Refusing::payload_named))]
 fn gather<R: Read>(alloc: Global, name: &str, reader: &mut R, n: u64) -> ReadResult<Vec<u8>, R>
     ensures empty { n ≡ 0 → IsOk result }
@@ -297,7 +297,7 @@ fn gather<R: Read>(alloc: Global, name: &str, reader: &mut R, n: u64) -> ReadRes
     Ok(payload)
 }
 
-/// The next n bytes, which are taken: lent by an input over a slice, and else gathered in memory.
+/// Takes the next n bytes: lent if the input is a slice, else gathered in memory.
 pub fn pull_payload<'de, R: Read>(
     alloc: Global,
     name: &str,
@@ -330,7 +330,7 @@ pub fn pull_payload<'de, R: Read>(
     }
 }
 
-/// Appends as many of the bytes as are wanted, and answers how many.
+/// Appends up to `want` of the bytes, and returns how many.
 fn copy_front<const CAP: usize>(payload: &mut ArrayVec<u8, CAP>, bytes: &[u8], want: u64) -> usize
     requires { length payload.old.items + want ≤ CAP }
     ensures count { result ≡ min want (length bytes.now) }
@@ -341,8 +341,8 @@ fn copy_front<const CAP: usize>(payload: &mut ArrayVec<u8, CAP>, bytes: &[u8], w
     count
 }
 
-/// Moves some of the next bytes to the end of the payload, and answers how many: none only at the
-/// end.
+/// Moves up to `want` of the next bytes to the end of the payload, and returns how many: 0 only at
+/// the end.
 fn copy_some<R: Read, const CAP: usize>(
     reader: &mut R,
     payload: &mut ArrayVec<u8, CAP>,
@@ -369,7 +369,7 @@ fn copy_some<R: Read, const CAP: usize>(
     }
 }
 
-/// The next n bytes, at most `CAP`, which are taken, with no memory.
+/// Takes the next n bytes, at most `CAP`, without allocating memory.
 #[tactic(auto, using(crate::proofs::Looking::some_left, crate::proofs::Looking::some_both, crate::proofs::Looking::some_then))]
 pub fn pull_short_payload<R: Read, const CAP: usize>(
     name: &str,

@@ -6,8 +6,8 @@ ghost use Rattle.dagcbor_heads.specs.Written.{Writes, WantsMemoryOnlyIf, WritesA
 
 use crate::write::{Write, WriteResult};
 
-/// The bytes of the shortest head (RFC 8949, section 3), followed by zeros, and the length of the
-/// head.
+/// Returns the bytes of the shortest head (RFC 8949, section 3), followed by zeros, and the length
+/// of the head.
 #[tactic(auto, unfolding(dagcbor_core::specs::Head::head))]
 pub fn head_bytes(major: u8, argument: u64) -> ([u8; 9], usize)
     requires { major ≤ 7 }
@@ -32,9 +32,9 @@ pub fn head_bytes(major: u8, argument: u64) -> ([u8; 9], usize)
     }
 }
 
-/// Appends the shortest head, if the writer has room for it. Else appends nothing, and answers
-/// false. Each branch knows the length of its head, so bytes are stored one by one, without a call
-/// that copies.
+/// Appends the shortest head, if the writer has room for it. Else appends nothing, and returns
+/// false. Each branch knows the length of its head, so the bytes are stored one by one, without a
+/// call that copies.
 #[tactic(auto, unfolding(dagcbor_core::specs::Head::head))]
 pub fn push_head_at_once<W: Write>(writer: &mut W, major: u8, argument: u64) -> bool
     requires { major ≤ 7 }
@@ -58,8 +58,8 @@ pub fn push_head_at_once<W: Write>(writer: &mut W, major: u8, argument: u64) -> 
     }
 }
 
-/// Appends the shortest head and the bytes after it, if the head is one byte and the writer has
-/// room for all of them. Else appends nothing, and answers false.
+/// Appends the shortest head and then the bytes, if the head is one byte and the writer has room
+/// for both. Else appends nothing, and returns false.
 #[tactic(auto, unfolding(dagcbor_core::specs::Head::head))]
 pub fn push_headed_at_once<W: Write>(writer: &mut W, major: u8, argument: u64, bytes: &[u8]) -> bool
     requires { major ≤ 7 }
@@ -69,7 +69,7 @@ pub fn push_headed_at_once<W: Write>(writer: &mut W, major: u8, argument: u64, b
     argument <= 23 && writer.push_at_once(&[32 * major + argument as u8], bytes)
 }
 
-/// Appends the shortest head of a major type and an argument.
+/// Appends the shortest head of this major type and argument.
 pub fn push_head<W: Write>(writer: &mut W, major: u8, argument: u64) -> WriteResult<(), W>
     requires { major ≤ 7 }
     ensures written { Writes (Some (head major argument)) (W.written writer.old)

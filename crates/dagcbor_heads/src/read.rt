@@ -1,4 +1,4 @@
-//! Readers: a list of bytes, however they come.
+//! Readers: sources of bytes.
 
 ghost use Rattle.std.specs.Prelude.{◌≡◌, ◌+◌, ◌-◌, ◌<◌, ◌≤◌, [], true, length, MatchOption};
 ghost use Rattle.std.specs.Prelude.{MatchResult, MatchBool, Some, IsSome, List, ℕ, IfSome, ◌++◌, ◌^◌};
@@ -15,14 +15,14 @@ use dagcbor_core::{DEFAULT_STEPS, DecodeError, split_head};
 use std::convert::Infallible;
 use std::marker::Model;
 
-/// What is shown of the bytes left: bytes that outlive the reader, or bytes of the reader's own.
+/// Bytes that a reader shows: they outlive the reader, or are the reader's own.
 #[derive(Clone, Copy, Debug)]
 pub enum Reference<'de, 'a> {
     Long(&'de [u8]),
     Short(&'a [u8]),
 }
 
-/// What a call that reads answers.
+/// The result of a call that reads.
 pub type ReadResult<T, R> = Result<T, DecodeError<<R as Read>::Error>>;
 
 /// A source of bytes, with a budget of steps into items.
@@ -32,24 +32,23 @@ pub trait Read: Drop {
     /// What contracts see of the reader.
     ghost reading: { Self → Reading };
 
-    /// Ensures that a front of the bytes left is shown, and takes nothing. No byte is shown only at
-    /// the end of the bytes, or if `want` is 0.
+    /// Ensures that a beginning of the bytes left is shown, and takes nothing. No byte is shown
+    /// only at the end of the bytes, or if `want` is 0.
     fn prepare(&mut self, want: usize) -> Result<(), Self::Error>
         ensures { MatchResult result
             (λ _. Shows (reading self.old) want (reading self.new))
             (λ _. Fails (reading self.old) (reading self.new)) };
 
-    /// The bytes that are shown.
+    /// Returns the bytes that are shown.
     fn shown(&self) -> &[u8]
         ensures { result.now ≡ (reading self.now).shown };
 
-    /// Takes n of the bytes shown. After that nothing counts as shown. If n is 0, no contract says
-    /// so.
+    /// Takes n of the bytes shown. If n is not 0, no byte counts as shown after that.
     fn advance(&mut self, n: usize)
         requires { n ≤ length (reading self.old).shown }
         ensures { Advances (reading self.old) n (reading self.new) };
 
-    /// Spends a step, or answers false if none is left.
+    /// Spends a step, or returns false if no step is left.
     fn step_in(&mut self) -> bool
         ensures { MatchBool result
             ((0 < (reading self.old).steps) × ((reading self.new).steps < (reading self.new).budget)
@@ -61,10 +60,10 @@ pub trait Read: Drop {
         requires { (reading self.old).steps < (reading self.old).budget }
         ensures { reading self.new ≡ with_steps ((reading self.old).steps + 1) (reading self.old) };
 
-    /// Takes the head at the front, if all of it is at hand: its major type, its argument and its
-    /// first byte. Else nothing is taken, and nothing counted, although it may have looked at the
-    /// bytes of a head. A call that then goes on byte by byte looks at each byte once, and counts
-    /// it twice.
+    /// Takes the head at the front, if all of it is at hand, and returns its major type, its
+    /// argument and its first byte. Else takes and counts nothing, although it may have looked at
+    /// the bytes of a head. A call that then goes on byte by byte looks at each byte once, but
+    /// counts two looks.
     fn take_head(&mut self) -> Option<(u8, u64, u8)>
         ensures taken { MatchOption result
             (reading self.new ≡ reading self.old)
@@ -78,7 +77,7 @@ pub trait Read: Drop {
         None
     }
 
-    /// A front of the bytes left that needs no call of the source. It may be empty.
+    /// Returns a beginning of the bytes left that needs no call of the source. It may be empty.
     fn at_hand(&self) -> &[u8]
         ensures { (b : List ℕ) → (reading self.now).left ≡ Some b
             → (rest : List ℕ) × (b ≡ result.now ++ rest) }
@@ -86,7 +85,7 @@ pub trait Read: Drop {
         &[]
     }
 
-    /// Takes the next n bytes, if they are at hand. Else nothing is taken, and nothing counted.
+    /// Takes the next n bytes, if they are at hand. Else takes and counts nothing.
     fn take_at_hand(&mut self, n: usize) -> bool
         ensures { MatchBool result
             (TakesSome n (reading self.old) (reading self.new))
@@ -126,14 +125,14 @@ impl<'a> Model for SliceReader<'a> {
 }
 
 impl<'a> SliceReader<'a> {
-    /// A reader over the bytes, with a budget of `DEFAULT_STEPS`.
+    /// Returns a reader over the bytes, with a budget of `DEFAULT_STEPS`.
     pub fn new(bytes: &'a [u8]) -> SliceReader<'a>
         ensures { result ≡ fresh_reading (Some bytes.now) default_steps true [] }
     {
         SliceReader::with_depth(bytes, DEFAULT_STEPS)
     }
 
-    /// A reader over the bytes, with a budget of so many steps.
+    /// Returns a reader over the bytes, with a budget of `steps`, at most 1,024.
     pub fn with_depth(bytes: &'a [u8], steps: usize) -> SliceReader<'a>
         requires { steps ≤ 1024 }
         ensures { result ≡ fresh_reading (Some bytes.now) steps true [] }
@@ -146,7 +145,7 @@ impl<'a> SliceReader<'a> {
         }
     }
 
-    /// The bytes that are shown, for as long as the slice.
+    /// Returns the bytes that are shown, which live as long as the slice.
     pub(crate) fn long(&self) -> &'a [u8]
         ensures bytes { result.now ≡ self.now.shown }
         ensures lends { self.now.lends ≡ true }
@@ -154,7 +153,8 @@ impl<'a> SliceReader<'a> {
         &self.rest[..self.shown]
     }
 
-    /// The bytes that are left, for as long as the slice. Nothing is taken, and nothing counted.
+    /// Returns the bytes that are left, which live as long as the slice. Nothing is taken or
+    /// counted.
     #[inline(always)]
     pub fn rest(&self) -> &'a [u8]
         ensures bytes { self.now.left ≡ Some result.now }
@@ -164,8 +164,8 @@ impl<'a> SliceReader<'a> {
     }
 
     /// Takes the string of this major type at the front, with its head, and lends its bytes, if all
-    /// of them are left. Else nothing is taken, and nothing counted. It may have looked at the
-    /// bytes of a head of this major type, as in `take_head`; of any other head only at the first
+    /// of them are left. Else takes and counts nothing. It may then have looked at the bytes of a
+    /// head of this major type, as `take_head` may; of any other head it looks only at the first
     /// byte.
     #[inline(always)]
     pub fn take_string(&mut self, kind: u8) -> Option<&'a [u8]>
@@ -192,7 +192,7 @@ impl<'a> SliceReader<'a> {
         Some(payload)
     }
 
-    /// Takes the next n bytes and lends them, if so many are left.
+    /// Takes the next n bytes and lends them, if n bytes are left. Else takes nothing.
     pub fn lend(&mut self, n: u64) -> Option<&'a [u8]>
         ensures lends { self.old.lends ≡ true }
         ensures lent { MatchOption result

@@ -7,7 +7,7 @@ use crate::read::{Read, ReadResult};
 use dagcbor_core::{DecodeError, Name};
 use std::marker::Model;
 
-/// How many steps are left of the budget.
+/// The steps left of a budget.
 #[derive(Drop)]
 pub(crate) struct Steps {
     left: usize,
@@ -26,7 +26,7 @@ impl Model for Steps {
 }
 
 impl Steps {
-    /// All of a budget.
+    /// Returns a full budget.
     pub(crate) fn new(budget: usize) -> Steps
         ensures { result ≡ record { left = budget; budget = budget } }
     {
@@ -36,7 +36,7 @@ impl Steps {
         }
     }
 
-    /// Spends one, or answers false if none is left.
+    /// Spends a step, or returns false if no step is left.
     pub(crate) fn spend(&mut self) -> bool
         ensures { MatchBool result
             ((0 < self.old.left) × (self.new.left < self.new.budget)
@@ -50,7 +50,7 @@ impl Steps {
         true
     }
 
-    /// Gives one back that is out.
+    /// Gives back a step that was spent.
     pub(crate) fn give_back(&mut self)
         requires { self.old.left < self.old.budget }
         ensures { self.new ≡ record { left = self.old.left + 1; budget = self.old.budget } }
@@ -59,7 +59,8 @@ impl Steps {
     }
 }
 
-/// Spends a step of the reader, or refuses for the depth. No byte is looked at.
+/// Spends a step of the reader, or refuses with `DepthOverflow` if no step is left. Looks at no
+/// byte.
 pub fn spend_step<R: Read>(name: &str, reader: &mut R) -> ReadResult<(), R>
     ensures { SpendsStep name.now (R.reading reader.old) result (R.reading reader.new) }
 {

@@ -5,7 +5,7 @@ ghost use base.Fml.{ftrue};
 
 use std::marker::Model;
 
-/// A count that takes no room in memory and has no greatest value, for a device's faults, say.
+/// A count that takes no room in memory and has no maximum, such as of a device's faults.
 pub struct Tally {
     pub ghost count: { ℕ },
 }
@@ -15,14 +15,14 @@ impl Model for Tally {
 }
 
 impl Tally {
-    /// A count of nothing yet.
+    /// Returns a count of 0.
     pub fn new() -> Tally
         ensures { result.count ≡ 0 }
     {
         Tally {}
     }
 
-    /// Raises the count. Nothing runs.
+    /// Raises the count by `by`. Does nothing at run time.
     pub fn add(&mut self, by: usize)
         ensures { self.new.count ≡ self.old.count + by }
     {}

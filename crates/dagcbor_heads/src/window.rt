@@ -44,7 +44,7 @@ impl Model for Window {
 }
 
 impl Window {
-    /// Copies nothing, and no fault was met.
+    /// Returns an empty window, with no fault counted.
     pub(crate) fn new() -> Window
         ensures { result ≡ record { copies = []; taken = 0; shown = []; faults = 0; looked = 0 } }
     {
@@ -58,7 +58,7 @@ impl Window {
         }
     }
 
-    /// How many bytes were taken that the source still has.
+    /// Returns how many bytes were taken that the source still has.
     pub(crate) fn taken(&self) -> usize
         ensures value { result ≡ self.now.taken }
         ensures most { result ≤ length self.now.copies }
@@ -66,9 +66,9 @@ impl Window {
         self.start
     }
 
-    /// Shows at most as many of the next bytes as are wanted: none only at the end, or if none is
-    /// wanted. It asks the source only if all that was copied is taken; the source then loses these
-    /// bytes. A fault is counted.
+    /// Shows at most `want` of the next bytes: no byte only at the end, or if `want` is 0. It asks
+    /// the source only if all copied bytes were taken; the source then loses these bytes. A fault
+    /// is counted.
     pub(crate) fn look<R: BufRead>(&mut self, source: &mut R, want: usize) -> io::Result<()>
         ensures shown { MatchResult result
             (λ _. Refills (bytes_told self.old.copies self.old.taken (R.remaining source.old)
@@ -89,7 +89,7 @@ impl Window {
         Ok(())
     }
 
-    /// If all that was copied is taken, copies some of the next bytes: none only at the end.
+    /// If all copied bytes were taken, copies some of the next bytes: no byte only at the end.
     #[inline(always)]
     fn prepare<R: BufRead>(&mut self, source: &mut R) -> io::Result<()>
         ensures ready { MatchResult result
@@ -113,8 +113,8 @@ impl Window {
         self.refill(source)
     }
 
-    /// Tells the source what was taken, which it then loses, and copies some of its next bytes:
-    /// none only at the end.
+    /// Consumes from the source what was taken, and copies some of its next bytes: no byte only at
+    /// the end.
     #[cold]
     #[inline(never)]
     fn refill<R: BufRead>(&mut self, source: &mut R) -> io::Result<()>
@@ -154,7 +154,7 @@ impl Window {
         }
     }
 
-    /// Shows what was copied and not taken, at most as many bytes as are wanted.
+    /// Shows at most `want` of the bytes that were copied and not taken.
     fn show(&mut self, want: usize)
         ensures { self.new ≡ record {
           copies = self.old.copies;
@@ -174,7 +174,7 @@ impl Window {
         &self.bytes[self.start..self.start + self.shown]
     }
 
-    /// Takes n of the bytes that are shown. Nothing is shown after that.
+    /// Takes n of the bytes that are shown. No byte is shown after that.
     pub(crate) fn advance(&mut self, n: usize)
         requires { n ≤ length self.old.shown }
         ensures { self.new ≡ record {
@@ -190,7 +190,7 @@ impl Window {
         self.looked.add(n);
     }
 
-    /// What was copied and not taken.
+    /// Returns the bytes that were copied and not taken.
     #[inline(always)]
     pub(crate) fn at_hand(&self) -> &[u8]
         ensures bytes { result.now ≡ drop self.now.taken self.now.copies }
@@ -199,7 +199,7 @@ impl Window {
         &self.bytes[..self.end][self.start..]
     }
 
-    /// Takes the next n bytes, if they were copied. Does not ask the source.
+    /// Takes the next n bytes, if they were copied, else returns false. Does not ask the source.
     #[inline(always)]
     pub(crate) fn take(&mut self, n: usize) -> bool
         ensures most { self.old.taken ≤ length self.old.copies }
@@ -222,8 +222,8 @@ impl Window {
         true
     }
 
-    /// Takes the head at the front, if all of it was copied: its major type, its argument and its
-    /// first byte. Does not ask the source.
+    /// Takes the head at the front, if all of it was copied, and returns its major type, its
+    /// argument and its first byte. Does not ask the source.
     pub(crate) fn take_head(&mut self) -> Option<(u8, u64, u8)>
         ensures { MatchOption result
             (self.new ≡ self.old)
@@ -237,8 +237,8 @@ impl Window {
     }
 }
 
-/// The head at the front, if all of it is there: its major type, its argument, its first byte and
-/// its length.
+/// Returns the major type, the argument, the first byte and the length of the head at the front, if
+/// all of it is there.
 #[inline(always)]
 fn whole_head(bytes: &[u8]) -> Option<(u8, u64, u8, usize)>
     ensures { IfSome result (λ h. BeginsWithHeadOf bytes.now h.0 h.1 h.2 h.3) }
@@ -249,7 +249,7 @@ fn whole_head(bytes: &[u8]) -> Option<(u8, u64, u8, usize)>
     Some((major, argument, first, bytes.len() - rest.len()))
 }
 
-/// Copies as many of the bytes as there is room for, and answers how many.
+/// Copies as many of the bytes as there is room for, and returns how many.
 fn copy_front(bytes: &[u8], room: &mut [u8]) -> usize
     ensures count { result ≡ min (length bytes.now) (length room.old) }
     ensures copied { take result room.new ≡ take result bytes.now }

@@ -1,4 +1,4 @@
-//! Writers: what bytes are appended to.
+//! Writers: places to which bytes are appended.
 
 ghost use Rattle.std.specs.Prelude.{◌≡◌, ◌∷◌, ◌++◌, [], Some, OnErr, Bool, true, Err};
 ghost use Rattle.dagcbor_core.specs.declared.error.EncodeError.TheVariants.{OutOfMemory};
@@ -8,10 +8,10 @@ use dagcbor_core::EncodeError;
 use std::convert::Infallible;
 use std::marker::Model;
 
-/// What a call that writes answers.
+/// The result of a call that writes.
 pub type WriteResult<T, W> = Result<T, EncodeError<<W as Write>::Error>>;
 
-/// A place that takes bytes.
+/// A place to which bytes are appended.
 pub trait Write {
     type Error: Drop;
 
@@ -22,14 +22,14 @@ pub trait Write {
     ghost takes_memory: { Bool };
 
     /// Appends the bytes. It is refused only with `Write` or `OutOfMemory`. Then a beginning of the
-    /// bytes may have gone out.
+    /// bytes may have been written.
     fn push(&mut self, bytes: &[u8]) -> WriteResult<(), Self>
         ensures written { Writes (Some bytes.now) (written self.old) (written self.new) result }
         ensures memory { WantsMemoryOnlyIf takes_memory result };
 
     /// Appends both, one after the other, if the writer has room for them. Else appends nothing,
-    /// and answers false. It takes no memory and asks no device, so nothing can fail, and the
-    /// answer stays in a register. A caller that gets false pushes. A writer that has no room of
+    /// and returns false. It takes no memory and asks no device, so nothing can fail, and the
+    /// result stays in a register. A caller that gets false calls `push`. A writer without room of
     /// its own leaves this out.
     fn push_at_once(&mut self, _front: &[u8], _rest: &[u8]) -> bool
         ensures { WritesAtOnce (Some (_front.now ++ _rest.now)) (written self.old)
@@ -59,7 +59,7 @@ impl<W: Write> Write for &mut W {
     }
 }
 
-/// Appends to the bytes, which contracts see.
+/// Appends to the bytes. Contracts see them.
 impl Write for Vec<u8> {
     type Error = Infallible;
 
@@ -106,21 +106,21 @@ impl Model for BufWriter {
 }
 
 impl BufWriter {
-    /// A writer that appends to these bytes, in their memory.
+    /// Returns a writer that appends to these bytes, in their memory.
     pub fn new(bytes: Vec<u8>) -> BufWriter
         ensures { result ≡ bytes.items }
     {
         BufWriter { bytes }
     }
 
-    /// The bytes held.
+    /// Returns the bytes held.
     pub fn buffer(&self) -> &[u8]
         ensures { result.now ≡ self.now }
     {
         self.bytes.as_slice()
     }
 
-    /// The bytes that were written.
+    /// Returns the bytes held, which are those that were written.
     pub fn into_inner(self) -> Vec<u8>
         ensures { result.items ≡ self }
     {
@@ -160,8 +160,8 @@ impl Write for BufWriter {
     }
 }
 
-/// The refusal of a growth. It is made in a separate function, so that a push that succeeds writes
-/// none of it.
+/// Returns the refusal `OutOfMemory`. It is made in a separate function, so that a push that
+/// succeeds writes none of it.
 #[cold]
 #[inline(never)]
 fn out_of_memory<E>() -> Result<(), EncodeError<E>>

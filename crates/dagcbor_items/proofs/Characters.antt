@@ -35,7 +35,7 @@ two_chars s rest more c d u e f = sym (ap only (chars_past_char s rest c u e ∙
 
 -- ---- a text of one character
 
--- the refusal of a text that has not one character
+-- the refusal of a text that does not have exactly one character
 abbrev IsCharMessage : {E : Type 0} → DecodeError E → Type 0
 IsCharMessage e = (message : Name) × (e ≡ Msg message) × Names message (codes "Char must be one character")
 
@@ -57,7 +57,7 @@ no_char {E} lacks {old} {new} e s t is same none h = subst (λ x. Refuses {E = E
     char_cause b rest f = refused_then {E = E} (text_at (codes "string") b) (λ s. one_char' (only (chars s))) s rest (Msg is.0) (text_stands (codes "string") b s rest f)
         (subst (λ o. IsRefusal {E = E} (one_char' o rest) (Msg is.0)) (sym nothing) (ap (λ x. Some (msg x)) (named is.0 (codes "Char must be one character") (codes "Char must be one character") is.2 refl (omega arith))))
 
--- no text stood there
+-- there was no text at the front
 pub char_text_refused : {E : Type 0} (lacks : Type 0) (old new : Reading) (e : DecodeError E) → Refuses (record { could = HasFront (leaf view_text) old; lacks = lacks; borrows = ⊥; stands = TextCause (codes "string") }) old e new
     → Refuses (record { could = HasFront (leaf view_char) old; lacks = lacks; borrows = ⊥; stands = CharCause }) old e new
 char_text_refused {E} lacks old new e r = passed_on (TextCause (codes "string")) CharCause old old new e (stays old)

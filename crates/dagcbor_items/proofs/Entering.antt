@@ -27,7 +27,7 @@ no_step_inside {E} {old = old} e (inl (starts, called)) h =
 no_step_inside {E} {old = old} e (inr (starts, called)) h =
     too_deep ⊥ 1 e h (λ i. omega (arith, ap any_need (is_map_at (definite old starts) i).1)) (λ n named b l. let s = starts b l in map_step E n s.0 b s.1 s.2 s.4 s.3 (subst (Names n) called named))
 
--- after the spent step no head stands
+-- after the spent step there is no head at the front
 pub parts_head_refused : {E : Type 0} {text : List ℕ} {old stepped : Reading} (new : Reading) (e : DecodeError E) → StartsWithParts text old → SpentStep old stepped → IsNamed text e → RefusesPlainly (HasHead stepped) HeadCause stepped e new
     → RefusesPlainly (HasItem 2 stepped) (ItemCause (stepped.steps + 2)) stepped e new
 parts_head_refused {E} {text} {old} {stepped} new e starts s named r =
@@ -42,7 +42,7 @@ pub enters_parts : {old stepped new : Reading} {m n first : ℕ} → SpentStep o
 enters_parts {old} {stepped} {new} {m} {n} s h =
     (m, record { fits = h.argument_fits; step = s.some; is_out = omega (arith, s.is_out, h.takes.same.steps, h.takes.same.budget); takes = subst (λ r. Takes r (head m n) new) s.is h.takes })
 
--- where the major type is known, the head is of that one
+-- if the major type is known, the head has that major type
 pub enters : {old new : Reading} {n : ℕ} (m : ℕ) → StartsDefinite old m → (major : ℕ) × Enters major n old new → Enters m n old new
 enters {old} {new} {n} m starts h = record {
   fits = h.1.fits;

@@ -1,4 +1,4 @@
--- What the bytes at the front say of the tree that stands there.
+-- What the bytes at the front say of the tree there.
 use Rattle.std.proofs.lemmas.Bool.Decides.{eqb_tells}
 use Rattle.std.proofs.Common.{◌≡◌, inl, inr, ℕ, zero, suc, ◌+◌, ◌*◌, ◌/◌, ◌^◌, ◌<◌, ◌≤◌, List, ◌∷◌, ◌++◌, sym, ap, ◌∙◌, subst, arith, [], length, refl, length-append, Some, codes}
 use Rattle.dagcbor_core.specs.Head.{head}
@@ -55,7 +55,7 @@ shorter b rest t f = by (spelling t) refl
     by [] e = absurd (front_nonempty [] t record { well_formed = f.well_formed; spellable = f.spellable; is = ap (λ y. y ++ []) (sym e) })
     by (x ∷ s) e = omega (arith, ap length (f.is ∙ ap (λ y. y ++ rest) e), length-append (x ∷ s) rest)
 
--- ---- what is refused where no byte or no head stands
+-- ---- what is refused if no byte or no head is at the front
 
 pub front_head_stands : {V : Type 0} {shape : Shape Tree V} {r : Reading} → HasFront shape r → HasHead r
 front_head_stands h = record {

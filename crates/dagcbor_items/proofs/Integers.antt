@@ -32,7 +32,7 @@ use Rattle.dagcbor_items.specs.Majors.{HasMajor, TakesMajor}
 use Rattle.dagcbor_items.proofs.Fronts.{front_byte}
 use Rattle.dagcbor_items.proofs.HeadMajors.{has_major}
 
--- only a number shows one
+-- only a number shows a number
 is_number : {V : Type 0} (accepted : ℤ → Option V) (t : Tree) → is_some (view_number accepted t) ≡ true → (n : ℤ) × (t ≡ integer n)
 is_number accepted (integer n) a = (n, refl)
 is_number accepted _ a = absurd (cc a)
@@ -58,7 +58,7 @@ number_taken {old} {new} {kind} {n} h = record {
   same = h.takes.same;
 }
 
--- a number that was handed to a function
+-- a number that was passed to a function
 pub number_handed : {V : Type 0} (accepted : ℤ → Option V) (n : ℤ) (o : Option V) → SFits w128 n → o ≡ accepted (to_z w128 (of_z w128 n)) → accepted n ≡ o
 number_handed accepted n o fits e = ap accepted (sym (to_z-of_z w128 n fits)) ∙ sym e
 
@@ -91,7 +91,7 @@ module _ {V E : Type 0} (accepted : ℤ → Option V) (name : List ℕ) where
       → RefusesPlainly (HasFront (leaf (view_number accepted)) old) more old e new
   narrow_refused stands more old new e wider r = passed_on stands more old old new e (stays old) (some_number accepted) (λ x. x) (λ x. x) (λ b l. (b, l, wider e b)) r
 
--- the head of a number is read, of whatever size
+-- the head of a number of any size is read
 pub number_head_read : (kept : List ℕ) (n : ℤ) (b rest : List ℕ) → IsFront b (integer n) rest → (h : ℕ × ℕ) × (number_of h.0 h.1 ≡ n) × (h.0 ≤ 1) × (h.1 < 2 ^ 64) × (b ≡ head h.0 h.1 ++ rest)
 number_head_read kept (pos n) b rest f = ((0, n), refl, omega arith, f.spellable, f.is)
 number_head_read kept (negsuc n) b rest f = ((1, n), refl, omega arith, f.spellable, f.is)
@@ -105,7 +105,7 @@ number_outside E accepted name kept n b rest none named f = λ said k.
     refused_then {E = E} (head_at said 0 1 b) (λ h. in_range said (accepted (number_of h.0 h.1))) h.0 rest (CastOverflow kept) (head_stands said 0 1 h.0.0 h.0.1 b rest h.3 (omega arith) h.2 h.4)
     (none_there E said kept (accepted (number_of h.0.0 h.0.1)) rest (ap accepted h.1 ∙ none) (named_as k named))
 
--- no tag of a bignum begins a head of a number
+-- a head of a number does not begin with the tag of a bignum
 no_big : (kept : List ℕ) (b : List ℕ) → ((first : ℕ) (more : List ℕ) → b ≡ first ∷ more → (first ≡ 0xc2) ⊎ (first ≡ 0xc3) → ⊥) → big_head_at kept b ≡ head_at kept 0 1 b
 no_big kept [] other = refl
 no_big kept (first ∷ more) other = rw (differs 0xc2 (λ e. other first more refl (inl e)), differs 0xc3 (λ e. other first more refl (inr e))) refl
@@ -113,7 +113,7 @@ no_big kept (first ∷ more) other = rw (differs 0xc2 (λ e. other first more re
     differs : (n : ℕ) → (first ≡ n → ⊥) → (first == n) ≡ false
     differs n h = elim (eqb_tells first n) [ inl a ↦ absurd (h a.1) | inr a ↦ a.0 ]
 
--- where the head of a number stands, no such tag does
+-- if the head of a number is at the front, no such tag is
 pub big_head_stands : (kept : List ℕ) (m n : ℕ) (b rest : List ℕ) → n < 2 ^ 64 → m ≤ 1 → b ≡ head m n ++ rest → big_head_at kept b ≡ got (m, n) rest
 big_head_stands kept m n b rest fits few is = no_big kept b starts ∙ head_stands kept 0 1 m n b rest fits (omega arith) few is
   where
@@ -141,7 +141,7 @@ outside E accepted stands {old} {new} n kept none cause h = (
   λ b l. let k = h.taken b l in cause b k.1 (subst (λ t. IsFront b t k.1) (all_numbers k.0 n k.3) k.2),
 )
 
--- not each number is accepted
+-- not every number is accepted
 module _ {V E : Type 0} (accepted : ℤ → Option V) (name : List ℕ) where
   pub number_not_read : (old new : Reading) (e : DecodeError E) → RefusesPlainly (HasFront (leaf (view_number Some)) old) (MajorCause name 0 1) old e new → RefusesPlainly (HasFront (leaf (view_number accepted)) old) (NumberCause name accepted) old e new
   number_not_read old new e r = narrow_refused accepted name (MajorCause name 0 1) (NumberCause name accepted) old new e (number_cause accepted name) r
@@ -180,7 +180,7 @@ natural_refused name bound old new e r = number_not_read (natural_below bound) n
 
 -- ---- numbers of any size
 
--- no byte
+-- a missing byte
 big_byte : {E : Type 0} (name : List ℕ) (e : DecodeError E) (b : List ℕ) → IsEndNamed name e → ByteCause e b → BigCause name e b
 big_byte {E} name (Eof n x) b named h = λ kept k. ended E kept name n x 1 (big_head_at kept b) 0 k named h.0 (ap (big_head_at kept) h.1)
 big_byte name _ b named h = absurd h
@@ -189,7 +189,7 @@ pub big_byte_refused : {E : Type 0} (name : List ℕ) (old new : Reading) (e : D
     → RefusesPlainly (HasFront (leaf (view_number Some)) old) (BigCause name) old e new
 big_byte_refused name old new e named r = passed_on ByteCause (BigCause name) old old new e (stays old) front_byte (λ x. x) (λ x. x) (λ b l. (b, l, big_byte name e b named)) r
 
--- a tag is no number
+-- a tag is not a number
 pub no_tag : (E : Type 0) (name : List ℕ) {old mid : Reading} {first : ℕ} (kept : Name) → Names kept name → ShowsByte old first mid → (first ≡ 0xc2) ⊎ (first ≡ 0xc3)
     → RefusesPlainly {E = E} (HasFront (leaf (view_number Some)) old) (BigCause name) old (Unsupported kept first) mid
 no_tag E name {old} {mid} {first} kept named h which = (

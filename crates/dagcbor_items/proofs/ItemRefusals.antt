@@ -39,7 +39,7 @@ leaf_asked (suc steps) first b more some is i n4 n5 = sym (ap (item_of (suc step
     other : (m n : ℕ) → m ≢ n → (m == n) ≡ false
     other m n h = elim (eqb_tells m n) [ inl a ↦ absurd (h a.1) | inr a ↦ a.0 ]
 
--- an item that has no others in it, of definite length
+-- an item of definite length that contains no other
 pub leaf_refused : {E : Type 0} (steps : ℕ) (e : DecodeError E) (first : ℕ) (b more : List ℕ) → 0 < steps → b ≡ first ∷ more → first % 32 ≢ 31 → first / 32 ≢ 4 → first / 32 ≢ 5 → IsRefusal (leaf_of first more) e → ItemCause steps e b
 leaf_refused steps e first b more some is i n4 n5 h = subst (λ r. IsRefusal r e) (leaf_asked steps first b more some is i n4 n5) h
 
@@ -70,7 +70,7 @@ text_item steps e first b more some is m h = part_refused (text_of (codes "strin
 
 -- ---- lists and maps
 
--- their heads, where two steps are left
+-- their heads, if two steps are left
 pub list_head : {E : Type 0} (steps : ℕ) (e : DecodeError E) (first : ℕ) (b more : List ℕ) → b ≡ first ∷ more → first / 32 ≡ 4 → IsRefusal (argument_of (codes "array") first more) e → ItemCause (suc (suc steps)) e b
 list_head steps e first b more is m h = by (is_31 (first % 32))
   where
@@ -101,7 +101,7 @@ map_head steps e first b more is m h = by (is_31 (first % 32))
         other : first % 32 ≢ 31 → (first % 32 == 31) ≡ false
         other n = elim (eqb_tells (first % 32) 31) [ inl a ↦ absurd (n a.1) | inr a ↦ a.0 ]
 
--- no step is left, or one alone for a list or a map
+-- no step is left, or only one for a list or a map
 pub no_step : (E : Type 0) (n : Name) (b : List ℕ) → Names n (codes "any") → ItemCause {E = E} 0 (DepthOverflow n) b
 no_step E n b h = ap (λ s. Some (depth_overflow s)) (named n (codes "any") (codes "any") h refl (omega arith))
 
@@ -144,7 +144,7 @@ behind_items (item t ts) (suc count) steps e b c f few need h =
     refused_then (item_of steps b) (λ t rest. after (items_of (item_of steps) count rest) λ ts. got (item t ts)) t _ e (any_reads steps b t _ o.0 (omega (arith, need)))
     (refused_after (items_of (item_of steps) count _) (λ ts. got (item t ts)) e (behind_items ts count steps e _ c o.1 (omega (arith, few)) (omega (arith, need)) h))
 
--- the last key, after a key that stands before them all
+-- the last key, after a key that comes before them all
 pub last_after : Option (List ℕ) → Entries → Option (List ℕ)
 last_after previous no_entries = previous
 last_after previous (entry k t es) = last_after (Some k) es

@@ -51,14 +51,14 @@ key_cause {E} previous e (first ∷ more) h = elim (eqb_tells (first / 32) 3) [
       subst (λ x. IsRefusal x e) (sym is) (subst (λ x. IsRefusal x e) at h)
 ]
 
--- a text that does not follow is no key
+-- a text that does not follow is not a key
 not_in_order : (previous : Option (List ℕ)) (key b rest : List ℕ) → IsFront b (text key) rest → follows previous key ≡ false → key_of previous b ≡ refused unordered_key (length rest)
 not_in_order previous key b rest f other =
     let h = head_front 3 (length key) (key ++ rest) f.spellable in
     ap (key_of previous) (f.is ∙ append_assoc (head 3 (length key)) key rest ∙ h.is)
     ∙ rw h.major_is (ap (λ x. after x (in_order previous)) (text_front (codes "map key") h.first h.more key rest f.well_formed h.reads) ∙ rw other refl)
 
--- no whole text stood there
+-- there was no whole text at the front
 pub key_text_refused : {E : Type 0} (previous : Option (List ℕ)) (old new : Reading) (e : DecodeError E) → RefusesOrLacksMemoryUnlent (HasFront (leaf view_text) old) (TextCause (codes "map key")) old e new
     → RefusesOrLacksMemoryUnlent (HasKey previous old) (KeyCause previous) old e new
 key_text_refused previous old new e r = passed_on (TextCause (codes "map key")) (KeyCause previous) old old new e (stays old) key_as_text (λ x. x) (λ x. x) (λ b l. (b, l, λ h. key_cause previous e b (h (codes "map key") (kept_short (codes "map key") (omega arith))))) r
@@ -80,7 +80,7 @@ unordered_refused E previous {old} {new} key h not_after = (
 pub follows_as : (previous : Option (List ℕ)) (k l : List ℕ) → k ≡ l → Follows previous k → Follows previous l
 follows_as previous k l e f = subst (Follows previous) e f
 
--- bytes of a text that are no key
+-- bytes of a text that are not a key
 pub no_key_refused : {E : Type 0} (previous : Option (List ℕ)) {old new : Reading} (b : List ℕ)
     (e : DecodeError E) → IsNoKey b e → TakesString 3 old b new
     → (IsUtf8 b → Follows previous b → ⊥)
@@ -92,7 +92,7 @@ no_key_refused {E} previous {old} {new} b UnorderedKey h t other =
     unordered_refused E previous b (text_taken b (text_string_taken b b refl h t)) (other h)
 no_key_refused previous b _ h t other = absurd h
 
--- what was found in place of a key is refused as no key
+-- what was found in place of a key is refused, because it is not a key
 pub found_refused : {E : Type 0} (previous : Option (List ℕ)) (old new : Reading)
     (found : Result (Bor (List ℕ)) (Bor (List ℕ))) (b : Bor (List ℕ)) (e : DecodeError E)
     → found ≡ Err b → TakesKey previous old found new → IsNoKey b.now e

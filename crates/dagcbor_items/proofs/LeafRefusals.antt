@@ -40,18 +40,18 @@ head_stands kept low high kind n b c fits least most is =
     ap (head_at kept low high) (is ∙ h.is) ∙ head_opened kept low high h.first h.more (subst (λ m. low ≤ m) (sym h.major_is) least) (subst (λ m. m ≤ high) (sym h.major_is) most)
     ∙ ap (λ x. after x (λ n. got (h.first / 32, n))) (h.reads kept) ∙ ap (λ m. got (m, n) c) h.major_is
 
--- no byte
+-- a missing byte
 pub major_byte : {E : Type 0} (name : List ℕ) (low high : ℕ) (e : DecodeError E) (b : List ℕ) → IsEndNamed name e → ByteCause e b → MajorCause name low high e b
 major_byte {E} name low high (Eof n x) b named h = λ kept k. ended E kept name n x 1 (head_at kept low high b) 0 k named h.0 (ap (head_at kept low high) h.1)
 major_byte name low high _ b named h = absurd h
 
--- a byte of such a type that begins no head
+-- a byte of such a major type that begins no head
 pub major_head : {E : Type 0} (name : List ℕ) (low high : ℕ) (e : DecodeError E) (first : ℕ) (b more : List ℕ) → b ≡ first ∷ more → low ≤ first / 32 → first / 32 ≤ high → IsNamed name e → HeadCause e b → MajorCause name low high e b
 major_head {E} name low high e first b more is least most named h = λ kept k.
     subst (λ x. IsRefusal x e) (sym (ap (head_at kept low high) is ∙ head_opened kept low high first more least most))
     (refused_after (argument_of kept first more) (λ n. got (first / 32, n)) e (head_refused kept name e (first ∷ more) k named (subst (HeadCause {E = E} e) is h)))
 
--- a byte of another one
+-- a byte of another major type
 pub major_other : (E : Type 0) (name : List ℕ) (low high : ℕ) (n : Name) (first : ℕ) (b more : List ℕ) → b ≡ first ∷ more → (low ≤ first / 32 → first / 32 ≤ high → ⊥) → Names n name → MajorCause {E = E} name low high (Mismatch n first) b
 major_other E name low high n first b more is other named = λ kept k.
     refused_as {E = E} _ (mismatch kept first) (length more) _ (ap (head_at kept low high) is ∙ rw (not_among (first / 32) low high other) refl) (ap (λ s. Some (mismatch s first)) (named_as k named))

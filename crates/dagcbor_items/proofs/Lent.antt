@@ -1,4 +1,4 @@
--- What a slice has whole at its front, and is taken from there.
+-- What is whole at the front of a slice, and is taken from there.
 use Rattle.std.proofs.Common.{◌≡◌, ℕ, ◌+◌, ◌≤◌, ◌<◌, Bool, true, false, MatchBool, IsUtf8, List, ◌∷◌, ◌++◌, length, refl, sym, ap, ◌∙◌, subst, arith, length-append, append_assoc, zero-le, Option, Some}
 use Rattle.dagcbor_heads.specs.Reading.{Reading}
 use Rattle.dagcbor_heads.specs.Fronts.{Takes, TakesSome}
@@ -15,11 +15,11 @@ use Rattle.dagcbor_items.specs.TypedReads.{TakesFront}
 use Rattle.dagcbor_items.specs.Untyped.{TakesItem}
 use Rattle.dagcbor_items.proofs.Names.{name_front, name_long}
 
--- what a front leaves is no longer than all
+-- the bytes left after a front are not more than all
 pub front_within : {b rest : List ℕ} (t : Tree) → IsFront b t rest → length (spelling t) + length rest ≡ length b
 front_within {b} {rest} t f = sym (ap length f.is ∙ length-append (spelling t) rest)
 
--- as many bytes as the spelling at the front has are that spelling
+-- the first n bytes are the spelling at the front, if it has n bytes
 pub front_lent : {V : Type 0} {view : Tree → Option V} {old new : Reading} {b rest : List ℕ} (t : Tree) (v : V) (s : List ℕ) → old.left ≡ Some b → IsFront b t rest → view t ≡ Some v → Takes old s new → length s + length rest ≡ length b
     → TakesFront (leaf view) old v new
 front_lent {V} {view} {old} {new} {b} {rest} t v s l f shows h long = record {
@@ -31,7 +31,7 @@ front_lent {V} {view} {old} {new} {b} {rest} t v s l f shows h long = record {
   same = h.same;
 }
 
--- as many bytes as the spelling has at the front of what is at hand are that spelling
+-- the first n bytes at hand are the spelling at the front, if it has n bytes
 pub front_at_hand : {V : Type 0} {view : Tree → Option V} {old new : Reading} {front rest : List ℕ} {n : ℕ} (t : Tree) (v : V) → ((b : List ℕ) → old.left ≡ Some b → (more : List ℕ) × (b ≡ front ++ more)) → IsFront front t rest → view t ≡ Some v → n + length rest ≡ length front
     → TakesSome n old new → TakesFront (leaf view) old v new
 front_at_hand {V} {view} {old} {new} {front} {rest} {n} t v begins f shows long h = record {
@@ -48,7 +48,7 @@ front_at_hand {V} {view} {old} {new} {front} {rest} {n} t v begins f shows long 
 pub at_hand_looked : {old new : Reading} {n : ℕ} → TakesSome n old new → LooksAtTaken 2 0 old new
 at_hand_looked h = lent_looked h.counted h.takes h.looked h.none_shown
 
--- a name that is at hand, where it was taken
+-- a name at hand that was taken
 pub name_taken : (previous : Option (List ℕ)) (name behind : List ℕ) {front : List ℕ} (old new : Reading) (done : Bool) → IsUtf8 name → ((b : List ℕ) → old.left ≡ Some b → (more : List ℕ) × (b ≡ front ++ more)) → length name < 24 → front ≡ text_spelling name ++ behind
     → Follows previous name → MatchBool done (TakesSome (1 + length name) old new) (new ≡ old) → MatchBool done (TakesKnownKey previous name old new) (new ≡ old)
 name_taken previous name behind {front} old new true utf8 begins short is follows h = record {

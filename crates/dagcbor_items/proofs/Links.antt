@@ -104,11 +104,11 @@ cid_opened b c n fits is =
     let h = head_front 2 n c fits in
     ap cid_of (is ∙ h.is) ∙ rw h.major_is (ap (λ x. after x cid_bytes_of) (h.reads (codes "cid")))
 
--- no CID: what the refusal says
+-- not a CID: what the refusal says
 invalid : {E A : Type 0} (r : Decoded A) (left : ℕ) (e : DecodeError E) → r ≡ refused (msg (codes "Invalid CID")) left → (n : Name) × (e ≡ Msg n) × Names n (codes "Invalid CID") → IsRefusal r e
 invalid {E} r left e is told = refused_as r (msg (codes "Invalid CID")) left e is (ap why_of told.1 ∙ ap (λ s. Some (msg s)) (named_short told.0 (codes "Invalid CID") (codes "Invalid CID") told.2 refl (omega arith)))
 
--- the head was taken, and a CID stands after it
+-- the head was taken, and a CID is after it
 record StandsBehind (n : ℕ) (mid : Reading) : Type 0 where
   cid : List ℕ
   rest : List ℕ
@@ -122,7 +122,7 @@ behind_head {old} {mid} {n} h i =
     let u = head_unique 2 (length (0x00 ∷ i.cid)) 2 n ((0x00 ∷ i.cid) ++ i.rest) k.0 (omega (arith, i.fits)) h.fits (sym (cid_spelled i.cid i.rest) ∙ k.1) in
     record { cid = i.cid; rest = i.rest; is_cid = i.is_cid; long = u.1; left = k.2 ∙ ap Some (sym u.2) }
 
--- the refusal of a byte string that is no zero and a CID
+-- the refusal of a byte string that is not a zero and a CID
 abbrev pub IsInvalidCid : {E : Type 0} → DecodeError E → Type 0
 IsInvalidCid e = (message : Name) × (e ≡ Msg message) × Names message (codes "Invalid CID")
 
@@ -197,7 +197,7 @@ found_in s t o e h = subst (λ x. IsZeroAndCid x o) e h
 
 -- ---- the tag
 
--- a link stands at the front
+-- a link is at the front
 record HasLink (r : Reading) : Type 0 where
   bytes : List ℕ
   cid : List ℕ
@@ -245,7 +245,7 @@ pub link_read : {E : Type 0} {old mid tagged : Reading} (result : Result CidPart
 link_read (Ok c) new h p r = link_taken (cid_bytes c) h p r
 link_read (Err e) new h p r = link_cid_refused new e h p r
 
--- no byte of a link's tag, or another one
+-- a byte of a link's tag is missing, or another byte is there
 tag_byte : {E A : Type 0} (name other : List ℕ) (wanted : ℕ) (read : List ℕ → Decoded A) (e : DecodeError E) → length name ≤ 31 → length other ≤ 31 → read [] ≡ refused (eof name (len_of 1)) 0
     → ((found : ℕ) (more : List ℕ) → (found == wanted) ≡ false → read (found ∷ more) ≡ refused (mismatch other found) (length more)) → (b : List ℕ) → WantedCause name other wanted e b → IsRefusal (read b) e
 tag_byte {E} name other wanted read e short also none another b h = by b (h name other (kept_short name short) (kept_short other also))

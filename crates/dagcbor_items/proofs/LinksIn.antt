@@ -1,4 +1,4 @@
--- Links that stand whole in bytes, in their order.
+-- Links that are whole in bytes, in their order.
 use Rattle.std.proofs.Common.{◌≡◌, ℕ, List, [], ◌∷◌, ◌++◌, refl, sym, ap, ◌∙◌, subst, append_assoc}
 use Rattle.dagcbor_core.specs.Head.{head}
 use Rattle.ipld_tree.specs.Tree.{Tree, list, mapping, link, Items, no_items, item, Entries, no_entries, entry, links_of, items_links, entries_links}
@@ -6,12 +6,12 @@ use Rattle.ipld_tree.specs.Spelling.{item_count, entry_count, text_spelling, spe
 use Rattle.ipld_tree.proofs.Fronts.{item_opened, entry_opened}
 use Rattle.dagcbor_items.specs.Walks.{AreLinksIn}
 
--- bytes before those in which they stand change nothing
+-- bytes before those that contain them change nothing
 pub links_behind : (x b c : List ℕ) (ls : List (List ℕ)) → b ≡ x ++ c → AreLinksIn c ls → AreLinksIn b ls
 links_behind x b c [] e h = tt
 links_behind x b c (l ∷ ls) e h = (x ++ h.0, h.1, h.2, e ∙ ap (λ y. x ++ y) h.3 ∙ sym (append_assoc x h.0 h.1), h.4, h.5)
 
--- the links of what stands at the front, and then those of the rest
+-- the links of what is at the front, and then those of the rest
 mutual
   pub item_links_in : (t : Tree) (b rest : List ℕ) (ls : List (List ℕ)) → IsFront b t rest → AreLinksIn rest ls → AreLinksIn b (links_of t ++ ls)
   item_links_in (list ts) b rest ls f h =

@@ -111,7 +111,7 @@ one_item_read {old} {now} {new} {count} {left} {left'} {t} ts us is e s a = subs
   };
 }
 
--- where so many items stand, those that were not read stand after those that were
+-- if `count` items are there, those that were not read come after those that were
 next_items : {old now : Reading} {count left : ℕ} (ts : List Tree) → ReadSome count left old ts now → HasItems count old → HasItems left now
 next_items {old} {now} {count} {left} ts s i =
     let k = s.takes.taken i.bytes i.left in

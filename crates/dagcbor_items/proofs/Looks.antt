@@ -31,7 +31,7 @@ pub looks_behind_some : {T E : Type 0} {times before : ℕ} {old mid : Reading} 
 looks_behind_some new (Ok v) h k = looks_more h k
 looks_behind_some new (Err e) h k = looks_then h k
 
--- ---- where a byte stands, one more look was free
+-- ---- if a byte is at the front, one more look was free
 
 -- the call took a byte
 taken_first : {times : ℕ} {old new : Reading} → LooksAtTaken times 0 old new → ((b : List ℕ) → old.left ≡ Some b → (rest : List ℕ) × (new.left ≡ Some rest) × (length rest < length b)) → LooksAtTaken (times + 1) 1 old new

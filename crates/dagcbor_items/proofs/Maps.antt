@@ -46,7 +46,7 @@ no_entry_read old count left es previous e none empty = subst (λ x. ReadEntries
   takes = record { taken = λ b l. (b, record { well_formed = tt; spellable = tt; is = refl }, omega arith, l); same = stays old };
 }
 
--- where so many entries stand, those that were not read stand after those that were
+-- if `count` entries are there, those that were not read come after those that were
 next_entries : {old now : Reading} {count left : ℕ} {es : Entries} {previous : Option (List ℕ)} → ReadEntries count left old es previous now → HasEntries count old → HasEntryRow any_entries previous left now
 next_entries {old} {now} {count} {left} {es} {previous} s i =
     let k = s.takes.taken i.bytes i.left in

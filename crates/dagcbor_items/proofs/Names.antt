@@ -31,7 +31,7 @@ name_opened {front} {behind} {first} name rest h e is =
     let same : first ≡ 32 * 3 + length name = cc both in
     (omega (arith, same), cc both)
 
--- as many bytes as the name has are that name
+-- the first n bytes are the name, if it has n bytes
 pub name_cut : {behind s more : List ℕ} (n : ℕ) (name rest : List ℕ) → n ≡ length name → behind ≡ name ++ rest → IsSplitAt behind n s more → s ≡ name
 name_cut {behind} {s} {more} n name rest same is cut =
     let whole : s ++ more ≡ name ++ rest = ap (λ x. x ++ more) cut.1 ∙ ap (λ x. take n behind ++ x) cut.2 ∙ take-append-drop n behind ∙ is in

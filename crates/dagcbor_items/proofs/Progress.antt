@@ -3,11 +3,11 @@ use Rattle.std.proofs.Common.{◌≡◌, inl, inr, ℕ, ◌+◌, ◌<◌, Bool, 
 use Rattle.std.specs.Iterator.{Count, MakesProgress, IsFinite, size}
 use Rattle.dagcbor_items.specs.ItemsLeft.{items_left_of}
 
--- at most so many items are left, and fewer than before
+-- at most this many items are left, and fewer than before
 abbrev IsFewer : ℕ → Bool → Option (List ℕ) → Type 0
 IsFewer n done left = IsFinite (items_left_of done left) × (size (items_left_of done left) < n)
 
--- of known bytes fewer are left
+-- if the bytes are known, fewer are left
 abbrev pub LeavesFewer : Option (List ℕ) → Option (List ℕ) → Type 0
 LeavesFewer old new = (b : List ℕ) → old ≡ Some b → (rest : List ℕ) × (new ≡ Some rest) × (length rest < length b)
 
@@ -31,7 +31,7 @@ pub goes_on : (A P Q : Type 0) (done : Bool) (r : A) → MatchBool done ((Some r
 goes_on A P Q true r h = let e = h.0 in absurd (cc e)
 goes_on A P Q false r h = (refl, h)
 
--- What contracts see of a stream: whether it is done, and the bytes left, where they are known.
+-- What contracts see of a stream: whether it is done, and the bytes left, if they are known.
 module _ {S : Type 0} (done : S → Bool) (left : S → Option (List ℕ)) where
   abbrev items : S → Count
   items s = items_left_of (done s) (left s)
@@ -44,7 +44,7 @@ module _ {S : Type 0} (done : S → Bool) (left : S → Option (List ℕ)) where
   at_rest Q P false s t finite h = ended t h.0
 
   module _ {A X : Type 0} (can : X → Type 0) (may : (x : X) → can x) (see : X → S) where
-    -- nothing comes of one that is done, and stays as it was; else the end was met
+    -- a stream that is done gives nothing and stays as it was; else the end was met
     pub rests : (Q P : Type 0) (old new : X) → MatchBool (done (see old)) (Q × (see new ≡ see old)) ((done (see new) ≡ true) × P) → MakesProgress {A = A} can (λ x. items (see x)) old None new
     rests Q P old new h = record {
       on = λ finite. tt;

@@ -1,4 +1,4 @@
--- What stands in bytes is what the functions read of them.
+-- The functions read the trees that are in bytes.
 use Rattle.std.proofs.Common.{◌≡◌, ℕ, ℤ, List, length, true, false, Option, Some, codes, chars, refl, sym, ap, ◌∙◌, subst, arith, append_assoc}
 use Rattle.dagcbor_core.specs.Head.{head}
 use Rattle.ipld_tree.specs.Tree.{Tree, null, boolean, integer, text, bytes, link}

@@ -1,4 +1,4 @@
--- A row of items or entries after the head of its list or map, and what stands first in it.
+-- A row of items or entries after the head of its list or map, and the first of them.
 use Rattle.std.proofs.Common.{◌≡◌, ℕ, ◌<◌, ◌≤◌, max, List, ◌++◌, true, refl, sym, ap, ◌∙◌, subst, arith, Option, None, Some, is_some, option_map, option_and_then}
 use Rattle.dagcbor_heads.specs.Reading.{Reading}
 use Rattle.ipld_tree.specs.Tree.{Tree, text, list, mapping, Items, no_items, item, Entries, no_entries, entry}
@@ -12,7 +12,7 @@ use Rattle.dagcbor_items.specs.Entering.{Enters}
 use Rattle.dagcbor_items.specs.Items.{HasRow}
 use Rattle.dagcbor_items.specs.Entries.{HasKey, AllFollow, HasEntryRow}
 
--- where a list or a map stands, its row stands after its head
+-- if a list or a map is at the front, its row is after its head
 pub row_entered : {V : Type 0} {shape : Shape Items V} {old mid : Reading} {count : ℕ} {b rest : List ℕ} (ts : Items) → Enters 4 count old mid → old.left ≡ Some b → IsFront b (list ts) rest
     → is_some (shape.view ts) ≡ true → shape.need ts ≤ mid.steps → HasRow shape count mid
 row_entered {b = b} {rest = rest} ts n l f accepted within =
@@ -69,7 +69,7 @@ row_key {V} {shape} {r} {last} {count} some h = by h.entries h.counted h.follow 
         let p = entry_opened h.bytes h.rest l u es k in
         record { bytes = h.bytes; key = l; rest = p.0; left = h.left; front = p.1; follows = first_follows last l u es f }
 
--- its value, where the key was taken
+-- its value, after the key was taken
 pub row_value : {V : Type 0} {shape : Shape Entries V} {old mid : Reading} {last : Option (List ℕ)} {count : ℕ} (key : List ℕ) → 0 < count → TakesItem 1 old (text key) mid → (h : HasEntryRow shape last count old)
     → (t : Tree) × (es : Entries) × (c : List ℕ) × (h.entries ≡ entry key t es) × (mid.left ≡ Some c) × IsFront c t (entries_spelling es ++ h.rest)
 row_value {V} {shape} {old} {mid} {last} {count} key some a h = by h.entries refl h.fronts

@@ -15,7 +15,7 @@ use Rattle.dagcbor_decode.proofs.Fronts.{head_opened}
 use Rattle.dagcbor_core.proofs.Heads.{head_first}
 use Rattle.dagcbor_decode.proofs.Rows.{token_shorter}
 
--- so many items, and what follows them
+-- n items, and what follows them
 abbrev pub IsRow : List ℕ → ℕ → List ℕ → Type 0
 IsRow b n rest = (ts : Items) × (item_count ts ≡ n) × AreFronts b ts rest
 
@@ -48,7 +48,7 @@ entries_row b rest (entry k t es) h =
 
 -- ---- after a head
 
--- the row goes on after a head, and after its string, where it is one of a string
+-- the row continues after a head, and after its string if it has one
 abbrev pub GoesOn : List ℕ → (m n k : ℕ) → List ℕ → Type 0
 GoesOn c m n k r = (IsTrue (is_string m) → n ≤ length c) × IsRow (if is_string m then drop n c else c) (part_count m n + k) r
 
@@ -100,7 +100,7 @@ row_some b rest (item t ts) h =
 
 -- ---- by heads
 
--- of what a head passes nothing is free but the head
+-- what a head passes, if it was split off
 abbrev pub IsPassed : (m n : ℕ) → List ℕ → (parts : ℕ) → List ℕ → Type 0
 IsPassed m n c parts rest = (parts ≡ part_count m n) × (IsTrue (is_string m) → n ≤ length c) × (rest ≡ (if is_string m then drop n c else c))
 
@@ -156,7 +156,7 @@ ends_within b r n (k, x) = by k n b x
         let more = by k (x.1 + (n - 1)) x.2 x.4 in
         (e.0 ++ more.0, e.1 ∙ ap (λ c. e.0 ++ c) more.1 ∙ sym (append_assoc e.0 more.0 r))
 
--- items that stand there end there
+-- items at the front end where their heads say
 row_ends : (most : ℕ) (b r : List ℕ) (n : ℕ) → length b ≤ most → IsRow b n r → EndByHeads b n r
 row_ends most b r n few (no_items, e, f) = (zero, (sym e, f.is))
 row_ends zero b r n few (item t ts, e, f) = absurd (omega (arith, few, row_some b r (item t ts) f))

@@ -30,7 +30,7 @@ pub if_err : {T E : Type 0} (P : T → Type 0) (Q : E → Type 0) (r : Result T 
 if_err P Q (Ok v) h = tt
 if_err P Q (Err e) h = h
 
--- a slice is read exactly where it is a block
+-- a slice is read if and only if it is a block
 abbrev pub ReadsSlice : List ℕ → Result Ipld (DecodeError Infallible) → Type 0
 ReadsSlice b result = MatchResult result (λ v. IsBlock b (tree_of v)) (λ e. SliceRefused e b)
 

@@ -19,7 +19,7 @@ need_positive (list ts) = omega arith
 need_positive (mapping es) = omega arith
 need_positive _ = omega arith
 
--- no step is left for what stands there
+-- no step is left for the item at the front
 pub too_deep : {E : Type 0} (lacks : Type 0) (spent : ℕ) {text : List ℕ} {old new : Reading} (e : DecodeError E) → NoStep text old e new → ((i : HasItem spent old) → spent + 1 ≤ any_need i.tree)
     → ((n : Name) → Names n text → (b : List ℕ) → old.left ≡ Some b → ItemCause {E = E} spent (DepthOverflow n) b) → Refuses (record { could = HasItem spent old; lacks = lacks; borrows = ⊥; stands = ItemCause (old.steps + spent) }) old e new
 too_deep {E} lacks spent {text} {old} e h deep cause = no_step_refused lacks ⊥ (ItemCause (old.steps + spent)) e (stays old) h (λ i. omega (arith, i.within, deep i))

@@ -58,7 +58,7 @@ pub string_read : {E : Type 0} (name : List ℕ) (kind : ℕ) {m n : ℕ} {old m
 string_read name kind new (Ok c) t named h = string_taken (cow_slice_items c) t.argument_fits (of_kind t) h.0 h.1
 string_read name kind {m} {n} {old} {mid} new (Err e) t named h = payload_refused (mid.lends ≡ false) name kind new e t.argument_fits (of_kind t) named (old.lends ≡ false) (λ x. sym t.takes.same.lends ∙ x) h
 
--- no byte of the major type stood there
+-- there was no byte of the major type at the front
 pub string_kind_refused : {E : Type 0} (lacks : Type 0) (name : List ℕ) (kind : ℕ) (old new : Reading) (e : DecodeError E) → RefusesPlainly (HasMajor kind kind old) (MajorCause name kind kind) old e new
     → Refuses (record { could = HasString kind old; lacks = lacks; borrows = ⊥; stands = StringCause name kind }) old e new
 string_kind_refused lacks name kind old new e r =
@@ -67,7 +67,7 @@ string_kind_refused lacks name kind old new e r =
     string_kind : HasString kind old → HasMajor kind kind old
     string_kind h = record { major = kind; argument = length h.payload; rest = h.payload ++ h.rest; lowest = omega arith; highest = omega arith; argument_fits = h.fits; left = h.left }
 
--- no head stood there, after a first byte of the major type
+-- there was no head at the front, after a first byte of the major type
 pub string_head_refused : {E : Type 0} (lacks : Type 0) (name : List ℕ) (kind : ℕ) (old new : Reading) (e : DecodeError E) → kind < 8 → StartsWithMajor old kind → IsNamed name e → RefusesPlainly (HasHead old) HeadCause old e new
     → Refuses (record { could = HasString kind old; lacks = lacks; borrows = ⊥; stands = StringCause name kind }) old e new
 string_head_refused lacks name kind old new e few starts named r =
@@ -99,7 +99,7 @@ pub shown_bytes : (t : Tree) (s : List ℕ) → view_bytes t ≡ Some s → t �
 shown_bytes (bytes v) s e = cc
 shown_bytes _ s e = absurd (cc e)
 
--- a string stands where its head and its payload do
+-- a string is at the front if its head and its payload are
 bytes_stand : {r : Reading} → HasFront (leaf view_bytes) r → HasString 2 r
 bytes_stand {r} h =
     let s = some_of (view_bytes h.tree) h.accepted in

@@ -1,4 +1,4 @@
--- Going through items, their links handed to a sink.
+-- Walks through items, whose links are handed to a sink.
 use Rattle.std.proofs.Common.{◌≡◌, ◌≢◌, inl, inr, ℕ, zero, suc, ◌+◌, ◌-◌, ◌/◌, ◌<◌, ◌≤◌, List, [], ◌∷◌, ◌++◌, Bool, true, false, refl, sym, ap, ◌∙◌, subst, arith, append_assoc, append-nil, Option, None, Some, Result, Ok, Err}
 use Rattle.dagcbor_heads.specs.Reading.{Reading, SpentStep, Stays}
 use Rattle.dagcbor_heads.specs.Fronts.{StartsWith, ShowsByte, Takes, TakesHead}
@@ -49,9 +49,9 @@ no_links (mapping es) a b c = absurd (b refl)
 no_links (link cid) a b c = absurd (c refl)
 no_links _ a b c = refl
 
--- ---- want of memory
+-- ---- out of memory
 
--- what may be wanting after what was taken might have been before
+-- if a call may run out of memory after what was taken, it might have before
 pub lacks_before : {takes_memory : Bool} {old mid : Reading} → Stays old mid → LeavesRest old.left mid.left → WalkLacks takes_memory mid → WalkLacks takes_memory old
 lacks_before h behind (inl l) = inl (sym h.lends ∙ l)
 lacks_before h behind (inr m) = inr (m.0, λ b l. let k = behind b l in let link = m.1 k.1 k.3 in (link.0, links_behind k.0 b k.1 (link.0 ∷ []) k.2 link.1))
@@ -96,7 +96,7 @@ module _ {S : Type 0} (sink : Sink S) where
   pub none_handed : (left : Option (List ℕ)) (s : S) → HandsLinks sink left s s
   none_handed left s = record { found = []; finds = found_none s; stand = λ b l. tt }
 
-  -- these links, and then such as stand in the rest
+  -- these links, and then links that are in the rest
   pub handed_more : {left rest : Option (List ℕ)} (links : List (List ℕ)) (before mid after : S) → Finds sink.holds before links mid
       → ((b : List ℕ) → left ≡ Some b → (c : List ℕ) × (rest ≡ Some c) × ((ls : List (List ℕ)) → AreLinksIn c ls → AreLinksIn b (links ++ ls)))
       → HandsLinks sink rest mid after → HandsLinks sink left before after
@@ -138,7 +138,7 @@ module _ {S : Type 0} (sink : Sink S) where
   pub leaf_walked : {E : Type 0} (old : Reading) {first : ℕ} (s : S) (r : Result (Unit {0}) (DecodeError E)) (new : Reading) → StartsWith old first → first / 32 ≢ 4 → first / 32 ≢ 5 → first / 32 ≢ 6 → SkipsEnteredItem old r new → WalksEnteredItem sink old s r new s
   leaf_walked {E} old {first} s (Ok u) new starts a b c h = by old.left refl
     where
-      -- where the bytes are not known, null may be named for what was taken
+      -- if the bytes are not known, null may stand for what was taken
       by : (o : Option (List ℕ)) → old.left ≡ o → (t : Tree) × TakesItem 1 old t new × Finds sink.holds s (links_of t) s
       by None e = (null, record { taken = λ x l. absurd (cc (e, l)); same = h.1.same }, found_none s)
       by (Some x) e =
@@ -177,7 +177,7 @@ simple_at (suc zero) few h = (boolean true, record { taken = λ b l. (let k = h.
 simple_at (suc (suc zero)) few h = (null, record { taken = λ b l. (let k = h.taken b l in (k.0, record { well_formed = tt; spellable = tt; is = k.1 }, omega arith, k.2)); same = h.same })
 simple_at (suc (suc (suc k))) few h = absurd (omega (arith, few))
 
--- the byte that was taken is the one that stood there
+-- the byte that was taken is the one that was at the front
 byte_there : (first byte : ℕ) {old new : Reading} → StartsWith old first → Takes old (byte ∷ []) new → Takes old (first ∷ []) new
 byte_there first byte starts h = record {
   taken = λ b l.

@@ -8,14 +8,14 @@ use Rattle.dagcbor_core.specs.declared.error.DecodeError.{DecodeError}
 use Rattle.dagcbor_items.specs.ReadCauses.{ItemCause}
 use Rattle.dagcbor_items.specs.Untyped.{HasEnteredItem, StartsDefinite}
 
--- a step was spent, and the head of a list (4) or map (5) of so many parts was taken
+-- a step was spent, and the head of a list (4) or map (5) of `count` parts was taken
 pub record Enters (major count : ℕ) (old new : Reading) : Type 0 where
   pub fits : count < 2 ^ 64
   pub step : 0 < old.steps
   pub is_out : new.steps < new.budget
   pub takes : Takes (with_steps (old.steps - 1) old) (head major count) new
 
--- the first byte is that of a list or of a map, and this is its name
+-- the first byte is that of a list or a map, and `name` is the name of that kind
 abbrev pub StartsWithParts : List ℕ → Reading → Type 0
 StartsWithParts name r = (StartsDefinite r 4 × (name ≡ codes "array"))
     ⊎ (StartsDefinite r 5 × (name ≡ codes "map"))

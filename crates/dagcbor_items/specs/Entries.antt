@@ -1,4 +1,4 @@
--- What a read of a map's entries answers and refuses.
+-- What reading a map's entries returns and refuses.
 use Rattle.std.specs.Prelude.{◌≡◌, ℕ, ◌++◌, ◌<◌, ◌≤◌, length, true, false, List, Option, None, Some, is_some, Result, MatchResult, ⊤, String, IsUtf8, codes}
 use Rattle.std.specs.Borrow.{Bor}
 use Rattle.std.specs.BTreeMap.{BTreeMap}
@@ -21,7 +21,7 @@ use Rattle.dagcbor_items.specs.Shapes.{Shape, takes_some, view_text, leaf}
 use Rattle.dagcbor_items.specs.TypedReads.{TakesFront}
 use Rattle.dagcbor_items.specs.ReadCauses.{KeyCause, EntriesCause}
 
--- a key stands at the front that follows the one before it
+-- a key that follows the previous one is at the front
 pub record HasKey (previous : Option (List ℕ)) (r : Reading) : Type 0 where
   pub bytes : List ℕ
   pub key : List ℕ
@@ -30,34 +30,34 @@ pub record HasKey (previous : Option (List ℕ)) (r : Reading) : Type 0 where
   pub front : IsFront bytes (text key) rest
   pub follows : Follows previous key
 
--- A key is read exactly where one stands that follows the one before it, with no want of memory
--- where the input lends.
+-- A key is read if and only if one that follows the previous key is at the front. If the input
+-- lends, it is not refused as out of memory.
 abbrev pub ReadsKeyAs : {K E : Type 0} → (K → List ℕ) → Option (List ℕ) → Reading
     → Result K (DecodeError E) → Reading → Type 0
 ReadsKeyAs meaning previous old result new = MatchResult result
     (λ k. Follows previous (meaning k) × TakesFront (leaf view_text) old (meaning k) new)
     (λ e. RefusesOrLacksMemoryUnlent (HasKey previous old) (KeyCause previous) old e new)
 
--- a key is read as a text that is lent, or in memory of its own
+-- a key is read as a text, lent or in memory of its own
 abbrev pub ReadsKey : {E : Type 0} → Option (List ℕ) → Reading
     → Result (CowStr Global) (DecodeError E) → Reading → Type 0
 ReadsKey = ReadsKeyAs cow_str_bytes
 
--- A whole text was taken: a key that follows the one before it, or the bytes of none.
+-- A whole text was taken: a key that follows the previous one, or else its bytes.
 abbrev pub TakesKey : Option (List ℕ) → Reading → Result (Bor (List ℕ)) (Bor (List ℕ)) → Reading
     → Type 0
 TakesKey previous old result new = MatchResult result
     (λ k. Follows previous k.now × TakesFront (leaf view_text) old k.now new)
     (λ b. TakesString 3 old b.now new × (IsUtf8 b.now → ¬ Follows previous b.now))
 
--- this key stood at the front and follows the one before it, and was taken, each of its bytes
--- looked at once
+-- this key was at the front, follows the previous one, and was taken, with one look at each of its
+-- bytes
 pub record TakesKnownKey (previous : Option (List ℕ)) (key : List ℕ) (old new : Reading) : Type 0 where
   pub follows : Follows previous key
   pub takes : TakesFront (leaf view_text) old key new
   pub looked : LooksAtTaken 2 0 old new
 
--- a slice begins with this name, whose head has one byte, and it follows the key before it
+-- a slice begins with this name, whose head has one byte, and which follows the previous key
 pub record HasName (previous : Option (List ℕ)) (name : List ℕ) (r : Reading) : Type 0 where
   pub rest : List ℕ
   pub lends : r.lends ≡ true
@@ -65,19 +65,19 @@ pub record HasName (previous : Option (List ℕ)) (name : List ℕ) (r : Reading
   pub left : r.left ≡ Some (text_spelling name ++ rest)
   pub follows : Follows previous name
 
--- what refuses the bytes of a text that is no key: they are not UTF-8, or do not follow the key
--- before them
+-- the refusal of a text's bytes that are not a key: they are not UTF-8, or do not follow the
+-- previous key
 abbrev pub IsNoKey : {E : Type 0} → List ℕ → DecodeError E → Type 0
 IsNoKey b (RequireUtf8 kept) = Names kept (codes "map key") × (¬ IsUtf8 b)
 IsNoKey b UnorderedKey = IsUtf8 b
 IsNoKey b _ = ⊥
 
--- the first of the entries stands after this key
+-- the first of the entries, if any, comes after this key
 abbrev pub AllFollow : Option (List ℕ) → Entries → Type 0
 AllFollow None es = ⊤
 AllFollow (Some k) es = Precedes k es
 
--- so many entries stand at the front, after the last key, which show something, and their need is
+-- `count` entries that the type accepts are at the front, after the last key, and their need is
 -- within the steps left
 pub record HasEntryRow {V : Type 0} (shape : Shape Entries V) (last : Option (List ℕ)) (count : ℕ) (r : Reading) : Type 0 where
   pub bytes : List ℕ
@@ -94,17 +94,17 @@ pub record HasEntryRow {V : Type 0} (shape : Shape Entries V) (last : Option (Li
 abbrev pub any_entries : Shape Entries Entries
 any_entries = record { view = Some; need = entries_need; wants_loan = false; memory = takes_some }
 
--- so many entries stand at the front, from the first, within the steps left
+-- `count` entries are at the front, the first with any key, within the steps left
 abbrev pub HasEntries : ℕ → Reading → Type 0
 HasEntries = HasEntryRow any_entries None
 
--- these entries stood at the front, and were taken
+-- these entries were at the front, and were taken
 pub record TakesEntries (old : Reading) (es : Entries) (new : Reading) : Type 0 where
   pub taken : (b : List ℕ) → old.left ≡ Some b → (rest : List ℕ) × AreEntryFronts b es rest
       × (entries_need es ≤ old.steps) × (new.left ≡ Some rest)
   pub same : Stays old new
 
--- Entries are read exactly where so many stand within the steps, in the order of their keys.
+-- Entries are read if and only if `count` of them, in key order, are there within the steps left.
 abbrev pub ReadsEntries : {E : Type 0} → ℕ → Reading
     → Result (BTreeMap (String Global) Ipld) (DecodeError E) → Reading → Type 0
 ReadsEntries count old result new = MatchResult result

@@ -1,4 +1,4 @@
--- What a read of a list's items answers and refuses.
+-- What reading a list's items returns and refuses.
 use Rattle.std.specs.Prelude.{◌≡◌, ℕ, ◌≤◌, true, false, List, length, Some, is_some, Result, MatchResult, Vec}
 use Rattle.std.specs.declared.alloc.Global.{Global}
 use Rattle.dagcbor_heads.specs.Reading.{Reading, Stays}
@@ -11,7 +11,7 @@ use Rattle.ipld_tree.specs.declared.ipld.Ipld.{Ipld}
 use Rattle.dagcbor_items.specs.Shapes.{Shape, takes_some}
 use Rattle.dagcbor_items.specs.ReadCauses.{ItemsCause}
 
--- so many items stand at the front which show something, and their need is within the steps left
+-- `count` items that the type accepts are at the front, and their need is within the steps left
 pub record HasRow {V : Type 0} (shape : Shape Items V) (count : ℕ) (r : Reading) : Type 0 where
   pub bytes : List ℕ
   pub items : Items
@@ -26,17 +26,17 @@ pub record HasRow {V : Type 0} (shape : Shape Items V) (count : ℕ) (r : Readin
 abbrev pub any_items : Shape Items Items
 any_items = record { view = Some; need = items_need; wants_loan = false; memory = takes_some }
 
--- so many items stand at the front within the steps left
+-- this many items are at the front, within the steps left
 abbrev pub HasItems : ℕ → Reading → Type 0
 HasItems = HasRow any_items
 
--- these trees stood at the front, and were taken
+-- these trees were at the front, and were taken
 pub record TakesItems (old : Reading) (ts : List Tree) (new : Reading) : Type 0 where
   pub taken : (b : List ℕ) → old.left ≡ Some b → (rest : List ℕ) × AreFronts b (items_of ts) rest
       × (items_need (items_of ts) ≤ old.steps) × (new.left ≡ Some rest)
   pub same : Stays old new
 
--- Items are read exactly where so many stand within the steps.
+-- Items are read if and only if `count` of them are there within the steps left.
 abbrev pub ReadsItems : {E : Type 0} → ℕ → Reading → Result (Vec Ipld Global) (DecodeError E)
     → Reading → Type 0
 ReadsItems count old result new = MatchResult result

@@ -1,9 +1,9 @@
--- How many items a stream may still give.
+-- How many values a stream may still give.
 use Rattle.std.specs.Prelude.{ℕ, ◌+◌, Bool, true, false, List, length, Option, None, Some}
 use Rattle.std.specs.Iterator.{Count, at_most, endless}
 
--- Of one that is done none. Where n bytes are left, at most n + 1; where the source does not tell
--- its bytes, nothing is said.
+-- no value, if the stream is done; at most n + 1, if n bytes are left; without limit, if the bytes
+-- left are not known
 abbrev pub items_left_of : Bool → Option (List ℕ) → Count
 items_left_of true left = at_most 0
 items_left_of false None = endless

@@ -1,4 +1,4 @@
--- What stands in bytes is what the functions of `Decode.antt` and `Leaves.antt` read of them.
+-- The functions of `Decode.antt` and `Leaves.antt` read the trees that are in bytes.
 use Rattle.std.specs.Prelude.{◌≡◌, ℕ, ◌≤◌, List, Option, Some, codes}
 use Rattle.ipld_tree.specs.Tree.{Tree, link, any_need}
 use Rattle.ipld_tree.specs.Spelling.{IsFront}
@@ -6,7 +6,7 @@ use Rattle.dagcbor_decode.specs.Decode.{Decoded, got, item_of}
 use Rattle.dagcbor_items.specs.Shapes.{natural_below, within, view_unsigned, view_signed, view_text, view_char, view_bytes, view_null, view_bool}
 use Rattle.dagcbor_items.specs.Leaves.{number_at, big_number_at, text_at, char_at, string_at, byte_at, bool_at, link_at}
 
--- of bytes that begin with a tree the function reads what the tree shows, and leaves the rest
+-- from bytes that begin with a tree, the function reads what the tree shows, and leaves the rest
 abbrev pub Reads : {V : Type 0} → (List ℕ → Decoded V) → (Tree → Option V) → Type 0
 Reads {V} read view = (b : List ℕ) (t : Tree) (rest : List ℕ) (v : V) → IsFront b t rest → view t ≡ Some v
     → read b ≡ got v rest

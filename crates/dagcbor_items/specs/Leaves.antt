@@ -1,4 +1,4 @@
--- What typed reads of leaves read of bytes, in the words of `Decode.antt`. The name is that of what is
+-- How typed reads of leaves decode bytes, in the words of `Decode.antt`. The name says what is
 -- being read.
 use Rattle.std.specs.Prelude.{ℕ, ℤ, ◌/◌, ◌==◌, ◌||◌, List, [], ◌∷◌, length, Bool, true, false, Option, None, Some, nat_lt, if◌then◌else◌, codes, chars}
 use Rattle.dagcbor_core.specs.Lengths.{len_of}
@@ -22,7 +22,7 @@ string_at name kind b = after (head_at name kind kind b) (λ h. payload name h.1
 abbrev pub text_at : List ℕ → List ℕ → Decoded (List ℕ)
 text_at name b = after (string_at name 3 b) (utf8_of name)
 
--- the character of a text of one
+-- the character of a text, which must have exactly one
 abbrev pub one_char : Option ℕ → List ℕ → Decoded ℕ
 one_char (Some c) rest = got c rest
 one_char None rest = refused (msg (codes "Char must be one character")) (length rest)
@@ -36,7 +36,7 @@ char_at b = after (text_at (codes "string") b) (λ s. one_char (only (chars s)))
 abbrev pub number_name : ℕ → List ℕ
 number_name major = if major == 0 then codes "u64" else codes "any"
 
--- what a type makes of a number, if it has it
+-- what a type makes of a number, if the number is in its range
 abbrev pub in_range : {V : Type 0} → List ℕ → Option V → List ℕ → Decoded V
 in_range name (Some v) rest = got v rest
 in_range name None rest = refused (cast_overflow name) (length rest)
@@ -56,7 +56,7 @@ big_number_at name accepted b = after (big_head_at name b) (λ h. in_range name 
 
 -- ---- other leaves
 
--- the wanted byte: a missing one is refused under the name, another one under the other name
+-- the wanted byte: a missing byte is refused under `name`, a different byte under `other`
 abbrev pub byte_at : (name other : List ℕ) → ℕ → List ℕ → Decoded (Unit {0})
 byte_at name other wanted [] = refused (eof name (len_of 1)) 0
 byte_at name other wanted (found ∷ b) =

@@ -5,8 +5,8 @@ use Rattle.dagcbor_heads.specs.Looking.{LooksAtLeft}
 use Rattle.ipld_tree.specs.Tree.{Tree}
 use Rattle.ipld_tree.specs.Spelling.{IsFront, spelling}
 
--- a tree stood at the front, and was taken, and at most three times as many bytes were looked at as
--- its spelling has; none is shown then: no byte after it was asked for
+-- a tree was at the front and was taken, with at most three looks for each byte of its spelling; no
+-- byte is shown now, because no byte after it was asked for
 pub record LooksAtItem (old new : Reading) : Type 0 where
   pub grows : old.looked ≤ new.looked
   pub most : (b : List ℕ) → old.left ≡ Some b

@@ -1,4 +1,4 @@
--- Why nothing is read of bytes, as a refusal says it: for what `Decode.antt` refuses them.
+-- Why bytes are refused by each read, as a refusal says: for what `Decode.antt` refuses them.
 use Rattle.std.specs.Prelude.{ℕ, ℤ, List, Option, None}
 use Rattle.dagcbor_core.specs.Texts.{IsKept}
 use Rattle.dagcbor_core.specs.declared.error.DecodeError.{DecodeError}
@@ -6,7 +6,7 @@ use Rattle.dagcbor_decode.specs.Decode.{Decoded, item_of, items_of, entries_of, 
 use Rattle.dagcbor_decode.specs.Verdicts.{IsRefusal}
 use Rattle.dagcbor_items.specs.Leaves.{head_at, string_at, text_at, char_at, number_at, big_head_at, big_number_at, byte_at, bool_at, link_at}
 
--- ---- items, with so many steps of depth
+-- ---- items, with this many steps of depth
 
 abbrev pub ItemCause : {E : Type 0} → ℕ → DecodeError E → List ℕ → Type 0
 ItemCause steps e b = IsRefusal (item_of steps b) e
@@ -25,7 +25,7 @@ KeyCause previous e b = IsRefusal (key_of previous b) e
 abbrev pub LinkCause : {E : Type 0} → DecodeError E → List ℕ → Type 0
 LinkCause e b = IsRefusal (link_at b) e
 
--- of the byte string after the tag
+-- the cause of a refused byte string after the tag
 abbrev pub CidCause : {E : Type 0} → DecodeError E → List ℕ → Type 0
 CidCause e b = IsRefusal (cid_of b) e
 
@@ -58,7 +58,7 @@ CharCause e b = IsRefusal (char_at b) e
 abbrev pub BoolCause : {E : Type 0} → DecodeError E → List ℕ → Type 0
 BoolCause e b = IsRefusal (bool_at b) e
 
--- no byte, or another than the wanted one: each is refused under its name
+-- the byte is missing, or is not the wanted one: each is refused under its own name
 abbrev pub WantedCause : {E : Type 0} → (name other : List ℕ) → ℕ → DecodeError E → List ℕ → Type 0
 WantedCause name other wanted e b = (kept also : List ℕ) → IsKept 31 kept name → IsKept 31 also other
     → IsRefusal (byte_at kept also wanted b) e

@@ -8,12 +8,12 @@ use Rattle.dagcbor_core.specs.declared.error.DecodeError.TheVariants.{Read, OutO
 use Rattle.dagcbor_decode.specs.Decode.{decode}
 use Rattle.dagcbor_decode.specs.Verdicts.{IsRefusal}
 
--- why a slice is not read: for want of memory, or for what the format's function refuses it
+-- why a slice is not read: out of memory, or the cause for which `decode` refuses it
 abbrev pub SliceRefused : DecodeError Infallible → List ℕ → Type 0
 SliceRefused OutOfMemory b = ⊤
 SliceRefused e b = IsRefusal (decode b) e
 
--- the end of the input was found; or bytes are left, which stay; or the reader faulted
+-- the end of the input was found; or bytes are left, and are not taken; or the reader faulted
 abbrev pub PullsEnd : {E : Type 0} → Reading → Result (Unit {0}) (DecodeError E) → Reading → Type 0
 PullsEnd old (Ok u) new = FindsEnd old new
 PullsEnd old (Err TrailingData) new = (byte : ℕ) × ShowsByte old byte new

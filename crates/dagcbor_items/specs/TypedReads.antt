@@ -1,4 +1,4 @@
--- What reading a value of a type answers and refuses.
+-- What reading a value of a type returns and refuses.
 use Rattle.std.specs.Prelude.{◌≡◌, ℕ, ◌≤◌, Bool, true, List, Some, is_some, Result, MatchResult, ⊤}
 use Rattle.dagcbor_heads.specs.Reading.{Reading, Stays}
 use Rattle.dagcbor_heads.specs.Refusals.{Refuses}
@@ -8,7 +8,7 @@ use Rattle.ipld_tree.specs.Tree.{Tree}
 use Rattle.ipld_tree.specs.Spelling.{IsFront}
 use Rattle.dagcbor_items.specs.Shapes.{Shape}
 
--- some tree stands at the front that the type accepts, and its need is within the steps left
+-- a tree that the type accepts is at the front, and its need is within the steps left
 pub record HasFront {V : Type 0} (shape : Shape Tree V) (r : Reading) : Type 0 where
   pub bytes : List ℕ
   pub tree : Tree
@@ -18,16 +18,16 @@ pub record HasFront {V : Type 0} (shape : Shape Tree V) (r : Reading) : Type 0 w
   pub accepted : is_some (shape.view tree) ≡ true
   pub within : shape.need tree ≤ r.steps
 
--- a tree stood at the front that shows v, its need within the steps, and was taken
+-- a tree that shows v was at the front, its need within the steps left, and was taken
 pub record TakesFront {V : Type 0} (shape : Shape Tree V) (old : Reading) (v : V) (new : Reading) : Type 0 where
   pub taken : (b : List ℕ) → old.left ≡ Some b
       → (t : Tree) × (rest : List ℕ) × IsFront b t rest × (shape.view t ≡ Some v)
       × (shape.need t ≤ old.steps) × (new.left ≡ Some rest)
   pub same : Stays old new
 
--- A value is read exactly where a tree stands that the type accepts within the steps. A refusal may
--- be for want of memory where `lacks`, for want of a loan where `borrows`, and else its cause
--- stands.
+-- A value is read if and only if a tree that the type accepts is at the front, within the steps
+-- left. A refusal is `OutOfMemory` only if `lacks`, `RequireBorrowed` only if `borrows`, and
+-- otherwise a fault or a cause in the bytes.
 abbrev pub Reads : {T V E : Type 0} → (T → V) → Shape Tree V → Type 0 → Type 0
     → (DecodeError E → List ℕ → Type 0) → Reading → Result T (DecodeError E) → Reading → Type 0
 Reads meaning shape lacks borrows stands old result new = MatchResult result
@@ -39,21 +39,21 @@ Reads meaning shape lacks borrows stands old result new = MatchResult result
       stands = stands;
     }) old e new)
 
--- reading it there may take memory
+-- reading with this reader may take memory
 abbrev pub MayLack : (Bool → Bool) → Reading → Type 0
 MayLack memory r = memory r.lends ≡ true
 
--- where a call that spends a step at once is refused for the depth, no step was left
+-- if a call that spends a step at once is refused for the depth, no step was left
 abbrev pub NoStepIfDeep : {E : Type 0} → Reading → DecodeError E → Type 0
 NoStepIfDeep old (DepthOverflow name) = old.steps ≡ 0
 NoStepIfDeep old _ = ⊤
 
--- any cause
+-- any cause in the bytes
 abbrev pub Anything : {E : Type 0} → DecodeError E → List ℕ → Type 0
 Anything e b = ⊤
 
--- A typed read is refused for want of memory, or of a loan, where its shape says that reading it may
--- take one, and for any cause where what could be read does not stand there.
+-- A typed read is `OutOfMemory` only if its shape may take memory, `RequireBorrowed` only if it
+-- wants a loan, and refused for a cause only if what it could read is not there.
 abbrev pub RefusesRead : {Data V E : Type 0} → (could : Type 0) → Shape Data V → Reading
     → DecodeError E → Reading → Type 0
 RefusesRead could shape old = Refuses (record {

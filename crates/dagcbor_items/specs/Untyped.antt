@@ -1,4 +1,4 @@
--- What an untyped read answers and refuses.
+-- What an untyped read returns and refuses.
 use Rattle.std.specs.Prelude.{◌≡◌, ◌≢◌, ℕ, ◌+◌, ◌-◌, ◌/◌, ◌%◌, ◌≤◌, false, List, [], ◌∷◌, Option, None, Some, Result, MatchResult, ⊤, Vec, String}
 use Rattle.std.specs.BTreeMap.{BTreeMap}
 use Rattle.std.specs.declared.alloc.Global.{Global}
@@ -13,48 +13,48 @@ use Rattle.dagcbor_items.specs.Shapes.{Shape, takes_some}
 use Rattle.dagcbor_items.specs.TypedReads.{HasFront}
 use Rattle.dagcbor_items.specs.ReadCauses.{ItemCause}
 
--- the first byte of those left, where they are known, has the major type
+-- the first of the bytes left, if they are known, has the major type
 abbrev pub StartsWithMajor : Reading → ℕ → Type 0
 StartsWithMajor r major = (b : List ℕ) → r.left ≡ Some b → (first : ℕ) × (more : List ℕ)
     × (b ≡ first ∷ more) × (first / 32 ≡ major)
 
--- so do they, and the byte is no break and announces no indefinite length
+-- the same, and the byte is not a break and does not announce an indefinite length
 abbrev pub StartsDefinite : Reading → ℕ → Type 0
 StartsDefinite r major = (b : List ℕ) → r.left ≡ Some b → (first : ℕ) × (more : List ℕ)
     × (b ≡ first ∷ more) × (first / 32 ≡ major) × (first % 32 ≢ 31)
 
--- any tree, of whose need so many steps are already spent
+-- any tree, with this many steps of its need already spent
 abbrev pub any_item : ℕ → Shape Tree Tree
 any_item spent = record { view = Some; need = λ t. any_need t - spent; wants_loan = false; memory = takes_some }
 
--- some tree stands at the front whose need is within the steps left and those already spent on it
+-- a tree is at the front whose need is within the steps left and those already spent on it
 abbrev pub HasItem : ℕ → Reading → Type 0
 HasItem spent = HasFront (any_item spent)
 
--- this tree stood at the front, and was taken
+-- this tree was at the front, and was taken
 pub record TakesItem (spent : ℕ) (old : Reading) (t : Tree) (new : Reading) : Type 0 where
   pub taken : (b : List ℕ) → old.left ≡ Some b → (rest : List ℕ) × IsFront b t rest
       × (any_need t ≤ old.steps + spent) × (new.left ≡ Some rest)
   pub same : Stays old new
 
--- an item that was entered, so that one of its steps is spent, stood at the front
+-- an item is at the front that was entered, so that one of its steps is spent
 abbrev pub HasEnteredItem : Reading → Type 0
 HasEnteredItem = HasItem 1
 
--- an item on which a step was spent before was taken
+-- an item was taken, on which one step had been spent
 abbrev pub TakesEnteredItem : Reading → Tree → Reading → Type 0
 TakesEnteredItem = TakesItem 1
 
--- An item of unknown kind is read, as a value that means a tree, exactly where one stands within the
--- steps, of which so many are already spent on it.
+-- An item of unknown kind is read, as a value that means a tree, if and only if one is there within
+-- the steps left and those already spent on it.
 abbrev pub ReadsItemAs : {T E : Type 0} → (T → Tree) → ℕ → Reading → Result T (DecodeError E)
     → Reading → Type 0
 ReadsItemAs meaning spent old result new = MatchResult result
     (λ v. TakesItem spent old (meaning v) new)
     (λ e. RefusesOrLacksMemory (HasItem spent old) (ItemCause (old.steps + spent)) old e new)
 
--- An item of unknown kind is read, as an `Ipld`, exactly where one stands within the steps, of
--- which so many are already spent on it.
+-- An item of unknown kind is read, as an `Ipld`, if and only if one is there within the steps left
+-- and those already spent on it.
 abbrev pub ReadsItemSpent : {E : Type 0} → ℕ → Reading → Result Ipld (DecodeError E) → Reading
     → Type 0
 ReadsItemSpent = ReadsItemAs tree_of
@@ -63,17 +63,17 @@ ReadsItemSpent = ReadsItemAs tree_of
 abbrev pub ReadsItem : {E : Type 0} → Reading → Result Ipld (DecodeError E) → Reading → Type 0
 ReadsItem = ReadsItemSpent 0
 
--- an item is read, on which a step was spent before
+-- an item is read, on which one step was spent
 abbrev pub ReadsEnteredItem : {E : Type 0} → Reading → Result Ipld (DecodeError E) → Reading → Type 0
 ReadsEnteredItem = ReadsItemSpent 1
 
--- an item is read into a place, by what stands there after the call, on which no step was spent
+-- an item on which no step was spent is read into a place, and `place` is the place after the call
 abbrev pub PutsItem : {E : Type 0} → Ipld → Reading → Result (Unit {0}) (DecodeError E) → Reading
     → Type 0
 PutsItem place = ReadsItemAs (λ _. tree_of place) 0
 
--- an item is read into a place, by what stands there after the call, on which a step was spent
--- before
+-- an item on which one step was spent is read into a place, and `place` is what is there after the
+-- call
 abbrev pub PutsEnteredItem : {E : Type 0} → Ipld → Reading → Result (Unit {0}) (DecodeError E)
     → Reading → Type 0
 PutsEnteredItem place = ReadsItemAs (λ _. tree_of place) 1
@@ -91,14 +91,14 @@ abbrev pub ReadsMap : {E : Type 0} → Reading → Result (BTreeMap (String Glob
     → Reading → Type 0
 ReadsMap = ReadsItemAs (λ m. tree_of (Map' m)) 1
 
--- A leaf that takes no memory is read exactly where one stands: a number, a link or a simple value.
+-- A leaf that takes no memory is read if and only if a number, a link or a simple value is there.
 abbrev pub ReadsLeaf : {E : Type 0} → Reading → Result Ipld (DecodeError E) → Reading → Type 0
 ReadsLeaf old result new = MatchResult result
     (λ v. TakesEnteredItem old (tree_of v) new)
     (λ e. RefusesPlainly (HasEnteredItem old) (ItemCause (old.steps + 1)) old e new)
 
--- An item of unknown kind is skipped exactly where one is read, with no want of memory where the
--- input lends.
+-- An item of unknown kind is skipped if and only if it can be read. If the input lends, memory does
+-- not run out.
 abbrev pub SkipsItemSpent : {E : Type 0} → ℕ → Reading → Result (Unit {0}) (DecodeError E) → Reading
     → Type 0
 SkipsItemSpent spent old result new = MatchResult result
@@ -109,18 +109,18 @@ SkipsItemSpent spent old result new = MatchResult result
 abbrev pub SkipsItem : {E : Type 0} → Reading → Result (Unit {0}) (DecodeError E) → Reading → Type 0
 SkipsItem = SkipsItemSpent 0
 
--- an item is skipped, on which a step was spent before
+-- an item is skipped, on which one step was spent
 abbrev pub SkipsEnteredItem : {E : Type 0} → Reading → Result (Unit {0}) (DecodeError E) → Reading
     → Type 0
 SkipsEnteredItem = SkipsItemSpent 1
 
--- neither a list nor a map
+-- the tree is neither a list nor a map
 abbrev pub IsLeaf : Tree → Type 0
 IsLeaf (list ts) = ⊥
 IsLeaf (mapping es) = ⊥
 IsLeaf _ = ⊤
 
--- a simple value and its one byte
+-- the byte is the spelling of this simple value, or of no simple value
 abbrev pub IsSimple : ℕ → Option Ipld → Type 0
 IsSimple byte (Some v) = IsLeaf (tree_of v) × IsTree (tree_of v) × IsSpellable (tree_of v)
     × (spelling (tree_of v) ≡ byte ∷ [])

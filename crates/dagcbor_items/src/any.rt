@@ -1,4 +1,4 @@
-//! Reading items of any kind.
+//! Reads items of any kind.
 
 ghost use Rattle.std.specs.Prelude.{◌≡◌, ◌≢◌, ◌%◌, IfErr, IfSome, MatchOption};
 ghost use Rattle.dagcbor_heads.specs.Inputs.{input_reading, OverInput};
@@ -20,7 +20,7 @@ use ipld_tree::Ipld;
 use std::alloc::Global;
 use std::collections::BTreeMap;
 
-/// Reads an item of any kind, no deeper than the steps that are left.
+/// Reads an item of any kind, at most as deep as the steps left.
 #[tactic(auto, using(dagcbor_heads::proofs::Refusing::as_refusal))]
 pub fn read_any<R: Read>(alloc: Global, input: &mut Input<'_, R>) -> ReadResult<Ipld, R>
     ensures item { OverInput R.reading ReadsItem input.old result input.new }
@@ -32,7 +32,7 @@ pub fn read_any<R: Read>(alloc: Global, input: &mut Input<'_, R>) -> ReadResult<
     Ok(item)
 }
 
-/// Reads an item of any kind into the place. Only a refusal is returned, because a value is long.
+/// Reads an item of any kind into the place. It returns only a refusal, because a value is large.
 #[tactic(auto, using(crate::proofs::PartRefusals::depth_item))]
 #[cycle(any)]
 #[inline(always)]

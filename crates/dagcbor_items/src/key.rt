@@ -1,4 +1,4 @@
-//! Reading the keys of maps: texts, each after the one before it.
+//! Reads the keys of maps: texts, each of which comes after the previous one in key order.
 
 ghost use Rattle.std.specs.Prelude.{◌≡◌, ◌↔◌, true, false, IfOk, IsTrue, option_map, IfErr, IsUtf8};
 ghost use Rattle.std.specs.Prelude.{IfSome, MatchOption, MatchBool, ◌++◌, ◌<◌, List, ℕ, length};
@@ -22,7 +22,7 @@ use std::alloc::Global;
 use std::borrow::CowStr;
 use std::str::from_utf8_unchecked;
 
-/// Whether the key may come after the one before it.
+/// Returns whether the key may come after the previous one.
 fn follows(previous: &Option<CowStr<'_>>, key: &str) -> bool
     ensures { IsTrue result ↔ Follows (option_map cow_str_bytes previous.now) key.now }
 {
@@ -30,7 +30,7 @@ fn follows(previous: &Option<CowStr<'_>>, key: &str) -> bool
     order::follows(&before, key.as_bytes())
 }
 
-/// The bytes as a key, if it may come after the one before it.
+/// Returns the bytes as a key, if it may come after the previous one.
 #[inline(always)]
 fn key_of<'de>(payload: &'de [u8], previous: &Option<CowStr<'de>>) -> Option<&'de str>
     ensures { MatchOption result
@@ -45,8 +45,8 @@ fn key_of<'de>(payload: &'de [u8], previous: &Option<CowStr<'de>>) -> Option<&'d
     Some(text)
 }
 
-/// Takes the text at the front, if the input is a slice that has all of it: the key, lent, or the
-/// bytes if they are not a key after the one before it. Else nothing is taken.
+/// Takes the text at the front, if the input is a slice that has all of it. Returns the key, lent,
+/// or its bytes if they are not a key that may come after the previous one. Else takes nothing.
 #[inline(always)]
 pub fn take_key<'de, R: Read>(
     input: &mut Input<'de, R>,
@@ -68,7 +68,8 @@ pub fn take_key<'de, R: Read>(
     }
 }
 
-/// Whether the bytes are the same. Inlined, it is faster than `==` for a name that is known.
+/// Returns whether the bytes are the same. Inlined, it is faster than `==` for a name that is
+/// known.
 #[inline(always)]
 fn is_same(text: &[u8], wanted: &[u8]) -> bool
     requires { length text.now ≡ length wanted.now }
@@ -82,7 +83,7 @@ fn is_same(text: &[u8], wanted: &[u8]) -> bool
     true
 }
 
-/// Whether the key is this name.
+/// Returns whether the key is this name.
 #[inline(always)]
 pub fn is_name(key: &str, name: &str) -> bool
     ensures { MatchBool result (key.now ≡ name.now) (¬ (key.now ≡ name.now)) }
@@ -93,8 +94,8 @@ pub fn is_name(key: &str, name: &str) -> bool
     is_same(key.as_bytes(), name.as_bytes())
 }
 
-/// The text at the front, whose head has one byte, and the bytes after it, if that text is this
-/// name.
+/// Returns the text at the front, whose head has one byte, and the bytes after it, if the text is
+/// this name.
 #[inline(always)]
 fn split_name<'b>(front: &'b [u8], name: &str) -> Option<(&'b str, &'b [u8])>
     ensures { MatchOption result
@@ -118,8 +119,8 @@ fn split_name<'b>(front: &'b [u8], name: &str) -> Option<(&'b str, &'b [u8])>
     Some((unsafe { from_utf8_unchecked(text) }, rest))
 }
 
-/// Takes this name, exactly if the input is a slice that begins with it, its head has one byte, and
-/// it may come after the key before it. Else nothing is taken.
+/// Takes this name, if and only if the input is a slice that begins with it, its head has one byte,
+/// and it may come after the previous key. Else takes nothing.
 #[inline(always)]
 pub fn take_name<'de, R: Read>(
     input: &mut Input<'de, R>,
@@ -147,8 +148,8 @@ pub fn take_name<'de, R: Read>(
     Some(key)
 }
 
-/// Takes this name, if it is at hand, its head has one byte, and it may come after the key before
-/// it. Else nothing is taken.
+/// Takes this name, if it is at hand, its head has one byte, and it may come after the previous
+/// key. Else takes nothing.
 #[inline(always)]
 fn take_name_at_hand<R: Read>(reader: &mut R, last: &Option<CowStr<'_>>, name: &str) -> bool
     ensures { MatchBool result
@@ -165,7 +166,7 @@ fn take_name_at_hand<R: Read>(reader: &mut R, last: &Option<CowStr<'_>>, name: &
     reader.take_at_hand(1 + name.len())
 }
 
-/// Takes the name, among these, that is at hand and may come after the key before it. It may take
+/// Takes the name, among these, that is at hand and may come after the previous key. It may take
 /// nothing.
 #[inline(always)]
 pub fn take_one_of<'n, R: Read>(
@@ -186,7 +187,7 @@ pub fn take_one_of<'n, R: Read>(
     None
 }
 
-/// What refuses a text's bytes that are no key.
+/// Returns the refusal of a text's bytes that are not a key.
 #[cold]
 #[inline(never)]
 pub fn no_key<E>(payload: &[u8]) -> DecodeError<E>
@@ -198,7 +199,7 @@ pub fn no_key<E>(payload: &[u8]) -> DecodeError<E>
     }
 }
 
-/// A key, lent if the input lends.
+/// Reads a key after the previous one, lent if the input lends.
 #[inline(always)]
 pub fn read_key<'de, R: Read>(
     alloc: Global,
@@ -221,7 +222,7 @@ pub fn read_key<'de, R: Read>(
     }
 }
 
-/// A key, if no slice has all of its text.
+/// Reads a key after the previous one, if the input is not a slice with all of its text.
 #[tactic(auto, using(crate::proofs::PartRefusals::text_key))]
 #[inline(always)]
 fn read_key_slowly<'de, R: Read>(

@@ -1,4 +1,4 @@
-//! Reading leaves other than links.
+//! Reads leaves other than links.
 
 ghost use Rattle.std.specs.Prelude.{◌≡◌, ◌≢◌, ◌≤◌, ◌/◌, ◌%◌, true, false, IfErr, IfSome, MatchOption};
 ghost use Rattle.dagcbor_heads.specs.Inputs.{input_reading, OverInput};
@@ -20,7 +20,7 @@ use dagcbor_heads::{Input, Read, ReadResult, pull_head, pull_one};
 use ipld_tree::Ipld;
 use std::alloc::Global;
 
-/// Takes the integer whose first byte was seen, if its head is at hand. Else nothing is taken.
+/// Takes the integer whose first byte was peeked, if its head is at hand. Else takes nothing.
 #[inline(always)]
 pub(crate) fn take_integer<R: Read>(reader: &mut R, first: u8) -> Option<i128>
     requires { StartsWith (R.reading reader.old) first }
@@ -37,7 +37,7 @@ pub(crate) fn take_integer<R: Read>(reader: &mut R, first: u8) -> Option<i128>
     Some(number_of(first / 32, argument))
 }
 
-/// Reads an integer, whose first byte was seen, and whose head is not at hand as a whole.
+/// Reads an integer whose first byte was peeked, and whose head is not all at hand.
 #[tactic(auto, using(crate::proofs::PartRefusals::named_item))]
 fn read_integer<R: Read>(name: &str, reader: &mut R, first: u8) -> ReadResult<Ipld, R>
     requires starts { StartsWith (R.reading reader.old) first }
@@ -61,7 +61,7 @@ fn read_bytes<R: Read>(alloc: Global, input: &mut Input<'_, R>) -> ReadResult<Ip
     Ok(Ipld::Bytes(pull_peeked_owned_bytes(alloc, input)?))
 }
 
-/// Reads a text, whose first byte was seen.
+/// Reads a text whose first byte was peeked.
 #[tactic(auto, using(crate::proofs::PartRefusals::text_item, crate::proofs::StringItems::text_items))]
 pub(crate) fn read_text<R: Read>(alloc: Global, input: &mut Input<'_, R>) -> ReadResult<String, R>
     requires { StartsWithMajor (input_reading R.reading input.old) 3 }
@@ -111,7 +111,7 @@ fn read_simple<R: Read>(reader: &mut R, first: u8) -> ReadResult<Ipld, R>
     }
 }
 
-/// Reads a link, whose first byte was seen: in one piece, if a slice has all of it.
+/// Reads a link whose first byte was peeked: in one piece, if a slice has all of it.
 fn read_link_at_once<R: Read>(input: &mut Input<'_, R>) -> ReadResult<Ipld, R>
     requires { StartsDefinite (input_reading R.reading input.old) 6 }
     ensures leaf { OverInput R.reading ReadsLeaf input.old result input.new }
@@ -124,7 +124,7 @@ fn read_link_at_once<R: Read>(input: &mut Input<'_, R>) -> ReadResult<Ipld, R>
     read_link(input)
 }
 
-/// Reads an integer, a byte string, a link or a simple value, whose first byte was seen.
+/// Reads an integer, a byte string, a link or a simple value, whose first byte was peeked.
 pub(crate) fn read_leaf<R: Read>(
     alloc: Global,
     input: &mut Input<'_, R>,

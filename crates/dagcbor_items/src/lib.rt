@@ -1,6 +1,6 @@
-//! Reading items of DAG-CBOR from an input: leaves, keys, links, and items of any kind.
+//! Reads items of DAG-CBOR from an input: leaves, keys, links, and items of any kind.
 //!
-//! The data of a block:
+//! The data of a block, or why it is refused:
 //!
 //! ```rust
 //! let place = r#"Err(NonMinimal { name: "u64", found: 24 })"#;

@@ -1,4 +1,4 @@
-//! Reading links: tag 42, and in it a byte string of a zero and a CID.
+//! Reads links: tag 42, and in it a byte string of a zero and a CID.
 
 ghost use Rattle.std.specs.Prelude.{◌≡◌, ℕ, List, codes, [], ◌∷◌, MatchResult, MatchOption, IfErr, IfSome};
 ghost use Rattle.dagcbor_heads.specs.Fronts.{Takes};
@@ -23,10 +23,10 @@ use dagcbor_heads::{
 };
 use ipld_tree::{Cid, Ipld};
 
-/// The greatest length of a CID with its zero.
+/// The greatest length of a CID with the zero before it.
 pub(crate) const LONGEST_CID: usize = 87;
 
-/// Takes the wanted byte.
+/// Takes the wanted byte. A missing byte is refused under `name`, a different byte under `other`.
 #[tactic(auto, using(crate::proofs::PartRefusals::end_byte))]
 pub(crate) fn pull_wanted<R: Read>(
     name: &str,
@@ -48,7 +48,7 @@ pub(crate) fn pull_wanted<R: Read>(
     Ok(())
 }
 
-/// The CID after a zero.
+/// Returns the CID after a zero.
 fn cid_behind_zero(payload: &[u8]) -> Option<Cid>
     ensures { IsZeroAndCid payload.now result }
 {
@@ -58,7 +58,7 @@ fn cid_behind_zero(payload: &[u8]) -> Option<Cid>
     }
 }
 
-/// The byte string after the tag of links at the front, and the bytes after that.
+/// Returns the byte string after the tag of a link at the front, and the bytes after that.
 #[inline(always)]
 fn split_tagged(front: &[u8]) -> Option<(&[u8], &[u8])>
     ensures { IfSome result (λ p. (tagged : List ℕ) × (front.now ≡ 0xd8 ∷ 0x2a ∷ tagged)
@@ -113,7 +113,7 @@ fn pull_cid_string<R: Read>(reader: &mut R) -> ReadResult<Cid, R>
     }
 }
 
-/// Reads what follows the tag.
+/// Reads the byte string after the tag.
 #[tactic(auto, using(crate::proofs::PartRefusals::end_link))]
 fn pull_cid<R: Read>(reader: &mut R) -> ReadResult<Cid, R>
     ensures cid { ReadsCid (R.reading reader.old) result (R.reading reader.new) }

@@ -1,4 +1,4 @@
-//! Heads of the major types that are wanted.
+//! Reads heads of the major types that are wanted.
 
 ghost use Rattle.std.specs.Prelude.{◌<◌, ◌≤◌, ◌/◌, IfErr, MatchResult};
 ghost use Rattle.dagcbor_heads.specs.Fronts.{ShowsByte};
@@ -11,7 +11,7 @@ ghost use Rattle.dagcbor_items.specs.AnsweredVariants.{OfByte, OfHead};
 use dagcbor_core::DecodeError;
 use dagcbor_heads::{Read, ReadResult, peek_one, pull_head};
 
-/// The next byte, if its major type is from `low` to `high`. The byte is not taken.
+/// Returns the next byte, if its major type is from `low` to `high`, without taking it.
 #[tactic(auto, using(crate::proofs::PartRefusals::end_byte))]
 pub(crate) fn peek_major<R: Read>(
     name: &str,
@@ -35,7 +35,7 @@ pub(crate) fn peek_major<R: Read>(
     Ok(first)
 }
 
-/// Takes the next head, after the first byte was asked for separately: a refusal names its cause.
+/// Takes the next head, after a separate look at its first byte, so that a refusal names its cause.
 #[tactic(auto, using(crate::proofs::PartRefusals::named_kind, crate::proofs::PartRefusals::byte_kind))]
 #[cold]
 #[inline(never)]
@@ -56,8 +56,8 @@ fn pull_major_slowly<R: Read>(
     Ok((first / 32, argument))
 }
 
-/// Takes the next head, if its major type is from `low` to `high`, and answers its major type and
-/// argument. If all of a head of another major type is at hand, that is taken too.
+/// Takes the next head, if its major type is from `low` to `high`, and returns its major type and
+/// argument. A head of another major type is taken too, if all of it is at hand.
 #[inline(always)]
 pub fn pull_major<R: Read>(
     name: &str,

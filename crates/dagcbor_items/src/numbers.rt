@@ -1,4 +1,4 @@
-//! Reading numbers.
+//! Reads numbers.
 
 ghost use Rattle.std.specs.Prelude.{◌≡◌, ◌+◌, ◌≤◌, ◌^◌, Some, IfOk, pos, negsuc, ◌≤ℤ◌, IfErr};
 ghost use Rattle.dagcbor_items.specs.TypedReads.{Reads};
@@ -12,7 +12,7 @@ use crate::majors::pull_major;
 use dagcbor_core::DecodeError;
 use dagcbor_heads::{Read, ReadResult, peek_one};
 
-/// The number of a head of major type 0 or 1.
+/// Returns the number whose head has this major type, 0 or 1, and this argument.
 pub(crate) fn number_of(major: u8, argument: u64) -> i128
     ensures { result ≡ number_of major argument }
 {
@@ -23,7 +23,7 @@ pub(crate) fn number_of(major: u8, argument: u64) -> i128
     }
 }
 
-/// A number of any size.
+/// Reads a number of any size.
 #[inline(always)]
 #[tactic(auto, using(dagcbor_heads::proofs::Refusing::as_refusal, crate::proofs::Integers::number_refused))]
 fn pull_number<R: Read>(name: &str, reader: &mut R) -> ReadResult<i128, R>
@@ -37,7 +37,7 @@ fn pull_number<R: Read>(name: &str, reader: &mut R) -> ReadResult<i128, R>
     Ok(number_of(major, argument))
 }
 
-/// The number as a type that reaches from -1 - `greatest` to `greatest` has it.
+/// Returns the number, if it is from -1 - `greatest` to `greatest`.
 fn signed_of(number: i128, greatest: u64) -> Option<i128>
     ensures { result ≡ within (greatest + 1) number }
 {
@@ -47,7 +47,7 @@ fn signed_of(number: i128, greatest: u64) -> Option<i128>
     Some(number)
 }
 
-/// A number from 0 to `greatest`.
+/// Reads a number from 0 to `greatest`.
 #[tactic(auto, using(crate::proofs::PartRefusals::kind_number))]
 #[inline(always)]
 pub fn pull_unsigned<R: Read>(name: &str, reader: &mut R, greatest: u64) -> ReadResult<u64, R>
@@ -64,7 +64,7 @@ pub fn pull_unsigned<R: Read>(name: &str, reader: &mut R, greatest: u64) -> Read
     Ok(argument)
 }
 
-/// A number from -1 - `greatest` to `greatest`.
+/// Reads a number from -1 - `greatest` to `greatest`.
 #[tactic(auto, using(crate::proofs::PartRefusals::kind_number))]
 pub fn pull_signed<R: Read>(name: &str, reader: &mut R, greatest: u64) -> ReadResult<i128, R>
     ensures number { ReadsSigned name.now (greatest + 1) (R.reading reader.old) result
@@ -81,7 +81,7 @@ pub fn pull_signed<R: Read>(name: &str, reader: &mut R, greatest: u64) -> ReadRe
     }
 }
 
-/// A number of any size, without a tag.
+/// Reads a number of any size. The tag of a bignum is refused.
 #[tactic(auto, using(crate::proofs::PartRefusals::end_kind))]
 fn pull_big<R: Read>(name: &str, reader: &mut R) -> ReadResult<i128, R>
     ensures number { Reads
@@ -97,14 +97,14 @@ fn pull_big<R: Read>(name: &str, reader: &mut R) -> ReadResult<i128, R>
     pull_number(name, reader)
 }
 
-/// The number, if it is not below 0.
+/// Returns the number, if it is not negative.
 fn big_natural_of(number: i128) -> Option<u128>
     ensures { result ≡ natural_below (2 ^ 128) number }
 {
     u128::try_from(number).ok()
 }
 
-/// A number from 0 on, of any size that has a spelling.
+/// Reads a number that is not negative, of any size that has a spelling.
 #[tactic(auto, using(crate::proofs::PartRefusals::kind_number))]
 pub fn pull_u128<R: Read>(reader: &mut R) -> ReadResult<u128, R>
     ensures number { ReadsU128 (R.reading reader.old) result (R.reading reader.new) }
@@ -118,7 +118,7 @@ pub fn pull_u128<R: Read>(reader: &mut R) -> ReadResult<u128, R>
     }
 }
 
-/// A number of any size that has a spelling.
+/// Reads a number of any size that has a spelling.
 pub fn pull_i128<R: Read>(reader: &mut R) -> ReadResult<i128, R>
     ensures number { ReadsI128 (R.reading reader.old) result (R.reading reader.new) }
     ensures looked { Looks 4 (R.reading reader.old) result (R.reading reader.new) }

@@ -1,5 +1,5 @@
-//! How the strings of items are read: gathered in memory if an input does not lend them, or lent by
-//! a slice.
+//! How the strings of items are read: lent by a slice, or gathered in memory if the input does not
+//! lend them.
 
 ghost use Rattle.std.specs.Prelude.{◌≡◌, ◌<◌, ◌↔◌, ℕ, List, true, false, IsTrue, option_map, IfErr};
 ghost use Rattle.std.specs.Prelude.{◌+◌, [], length, MatchBool, IfSome};
@@ -26,18 +26,18 @@ use std::alloc::Global;
 use std::borrow::CowStr;
 use std::convert::Infallible;
 
-/// A reader whose strings can be skipped, and the keys of whose maps can be kept.
+/// A reader that can skip strings, and keep the keys of maps.
 pub trait PayloadReader: Read {
-    /// Where memory for a string comes from, or nothing if none is taken.
+    /// Where memory for a string comes from, or `()` if no memory is taken.
     type Alloc: Copy;
 
-    /// A key of a map, which is kept until the next one is compared with it.
+    /// A key of a map, which is kept until it is compared with the next one.
     type Key: Drop;
 
     ghost key_bytes: { Self.Key → List ℕ };
 
-    /// Takes the item at the front, if it contains no others and no link, and all of it is at hand.
-    /// It may take nothing.
+    /// Takes the item at the front, if it is not a link and contains no other items, and all of it
+    /// is at hand. It may take nothing.
     fn take_leaf(&mut self) -> bool
         ensures taken { MatchBool result
             ((t : Tree) × TakesItem 0 (Self.reading self.old) t (Self.reading self.new)
@@ -46,7 +46,7 @@ pub trait PayloadReader: Read {
         ensures looked { IsTrue result
             → LooksAtTaken 3 0 (Self.reading self.old) (Self.reading self.new) };
 
-    /// Reads a key after the one before it.
+    /// Reads a key that may come after the previous one.
     fn pull_key(
         &mut self,
         alloc: Self::Alloc,
@@ -57,14 +57,14 @@ pub trait PayloadReader: Read {
         ensures looked { Looks 3 (Self.reading self.old) result (Self.reading self.new) }
         ensures variant { IfErr result OfKey };
 
-    /// Goes through a byte string, whose first byte was seen.
+    /// Skips a byte string whose first byte was peeked.
     fn skip_bytes(&mut self, alloc: Self::Alloc) -> ReadResult<(), Self>
         requires { StartsWithMajor (Self.reading self.old) 2 }
         ensures item { SkipsEnteredItem (Self.reading self.old) result (Self.reading self.new) }
         ensures looked { LooksBehind 3 1 (Self.reading self.old) result (Self.reading self.new) }
         ensures variant { IfErr result OfHead };
 
-    /// Goes through a text, whose first byte was seen, and checks that it is UTF-8.
+    /// Skips a text whose first byte was peeked, and checks that it is UTF-8.
     fn skip_text(&mut self, alloc: Self::Alloc) -> ReadResult<(), Self>
         requires { StartsWithMajor (Self.reading self.old) 3 }
         ensures item { SkipsEnteredItem (Self.reading self.old) result (Self.reading self.new) }
@@ -72,7 +72,7 @@ pub trait PayloadReader: Read {
         ensures variant { IfErr result OfText };
 }
 
-/// Lent if the input lends, else gathered in memory.
+/// Strings are lent if the input lends, else gathered in memory.
 impl<'de, R: Read> PayloadReader for Input<'de, R> {
     type Alloc = Global;
 
@@ -109,7 +109,7 @@ impl<'de, R: Read> PayloadReader for Input<'de, R> {
     }
 }
 
-/// The bytes of a string whose first byte has the major type.
+/// Reads a string whose first byte has the major type, and returns its bytes, lent.
 #[tactic(auto, using(crate::proofs::PartRefusals::named_kind, crate::proofs::PartRefusals::end_kind))]
 fn pull_peeked_lent_string<'de>(
     name: &str,
@@ -129,7 +129,7 @@ fn pull_peeked_lent_string<'de>(
     }
 }
 
-/// A text whose first byte has its major type.
+/// Reads a text whose first byte has its major type, and returns it lent.
 #[tactic(auto, using(crate::proofs::PartRefusals::kind_text))]
 fn pull_peeked_lent_text<'de>(
     name: &str,
@@ -149,7 +149,7 @@ fn pull_peeked_lent_text<'de>(
     }
 }
 
-/// A text, read byte by byte: a refusal names its cause.
+/// Reads a text byte by byte, so that a refusal names its cause.
 #[tactic(auto, using(crate::proofs::PartRefusals::byte_text))]
 #[cold]
 #[inline(never)]
@@ -165,7 +165,7 @@ fn pull_lent_text_slowly<'de>(
     pull_peeked_lent_text(name, reader)
 }
 
-/// A text, lent.
+/// Reads a text, and returns it lent.
 pub(crate) fn pull_lent_text<'de>(
     name: &str,
     reader: &mut SliceReader<'de>,
@@ -183,7 +183,7 @@ pub(crate) fn pull_lent_text<'de>(
     pull_lent_text_slowly(name, reader)
 }
 
-/// Whether the key may come after the one before it.
+/// Returns whether the key may come after the previous one.
 fn lent_follows(previous: &Option<&str>, key: &str) -> bool
     ensures { IsTrue result ↔ Follows (option_map (λ s. s.now) previous.now) key.now }
 {
@@ -191,7 +191,7 @@ fn lent_follows(previous: &Option<&str>, key: &str) -> bool
     follows(&before, key.as_bytes())
 }
 
-/// How many bytes the item at the front has, if it contains no others and no link.
+/// Returns the length of the item at the front, if it is not a link and contains no other items.
 #[inline(always)]
 fn leaf_length(bytes: &[u8]) -> Option<usize>
     ensures { IfSome result (λ n. (t : Tree) × (rest : List ℕ) × IsFront bytes.now t rest
@@ -205,7 +205,7 @@ fn leaf_length(bytes: &[u8]) -> Option<usize>
     Some(bytes.len() - rest.len())
 }
 
-/// Lent, with no allocator.
+/// Strings are lent, with no allocator.
 impl<'de> PayloadReader for SliceReader<'de> {
     type Alloc = ();
 

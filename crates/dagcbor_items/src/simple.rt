@@ -1,4 +1,4 @@
-//! Reading null, false and true.
+//! Reads null, false and true.
 
 ghost use Rattle.std.specs.Prelude.{IfErr};
 ghost use Rattle.dagcbor_items.specs.LeafReads.{ReadsNull, ReadsBool};
@@ -9,7 +9,7 @@ use crate::link::pull_wanted;
 use dagcbor_core::DecodeError;
 use dagcbor_heads::{Read, ReadResult, pull_one};
 
-/// A null.
+/// Reads a null.
 #[tactic(auto, using(crate::proofs::SimpleValues::null_read))]
 pub fn pull_null<R: Read>(reader: &mut R) -> ReadResult<(), R>
     ensures null { ReadsNull (R.reading reader.old) result (R.reading reader.new) }
@@ -19,7 +19,7 @@ pub fn pull_null<R: Read>(reader: &mut R) -> ReadResult<(), R>
     pull_wanted("unit", "unit", reader, 0xf6)
 }
 
-/// A boolean.
+/// Reads a boolean.
 #[tactic(auto, using(crate::proofs::PartRefusals::end_byte))]
 pub fn pull_bool<R: Read>(reader: &mut R) -> ReadResult<bool, R>
     ensures value { ReadsBool (R.reading reader.old) result (R.reading reader.new) }

@@ -1,4 +1,4 @@
-//! What is done with the links of an item.
+//! Sinks, which take the links of an item.
 
 ghost use Rattle.std.specs.Prelude.{◌≡◌, [], ◌∷◌, true, false, ⊤, MatchResult};
 ghost use Rattle.ipld_tree.specs.Cid.{cid_bytes};
@@ -7,12 +7,12 @@ ghost use Rattle.dagcbor_items.specs.Walks.{Sink, forms, Finds};
 use ipld_tree::Cid;
 use std::alloc::AllocError;
 
-/// What is done with the links of an item, one after the other.
+/// What takes the links of an item, one after the other.
 pub trait LinkSink {
     /// What contracts see of the sink.
     ghost sink: { Sink Self };
 
-    /// Hands it the next link. If it refuses, it holds what it held before.
+    /// Hands the sink the next link. If it refuses, it holds what it held before.
     fn take(&mut self, cid: Cid) -> Result<(), AllocError>
         ensures { MatchResult result
             (λ _. Finds sink.holds self.old (cid_bytes cid ∷ []) self.new)

@@ -1,4 +1,4 @@
-//! What comes after items, found by their heads only.
+//! Finds the bytes after items by their heads only.
 
 ghost use Rattle.std.specs.Prelude.{◌≡◌, ◌<◌, ◌≤◌, ◌^◌, length, drop, MatchOption, IsTrue};
 ghost use Rattle.std.specs.Prelude.{if◌then◌else◌};
@@ -7,7 +7,8 @@ ghost use Rattle.dagcbor_items.specs.Skips.{part_count, FindsBehindItems};
 
 use dagcbor_core::split_head;
 
-/// What comes after a head, and after its string if it has one.
+/// Returns the bytes after a token whose head was split off: after its string, if it has one.
+/// `None` if the string is cut.
 #[inline(always)]
 pub fn behind_token(major: u8, argument: u64, behind: &[u8]) -> Option<&[u8]>
     ensures { MatchOption result
@@ -24,7 +25,7 @@ pub fn behind_token(major: u8, argument: u64, behind: &[u8]) -> Option<&[u8]>
     Some(behind.split_at(argument as usize).1)
 }
 
-/// How many items follow the head as parts of its item.
+/// Returns how many items follow the head as parts of its item, or `None` if that is 2^64 or more.
 #[inline(always)]
 fn parts_behind(major: u8, argument: u64) -> Option<u64>
     ensures { MatchOption result (2 ^ 64 ≤ part_count major argument)
@@ -38,9 +39,10 @@ fn parts_behind(major: u8, argument: u64) -> Option<u64>
     }
 }
 
-/// The bytes after so many items, by their heads. After those of lists, maps and links come the
-/// parts, after those of strings the bytes. Nothing is judged. If there are items, they end there
-/// (`items_found` in `proofs/Skipping.antt`). Bytes that are not items may have such an end too.
+/// Returns the bytes after `count` items, found by their heads: those of lists, maps and links are
+/// followed by their parts, those of strings by their bytes. It does not validate. If the bytes
+/// begin with items, this is where they end (`items_found` in `proofs/Skipping.antt`). Bytes that
+/// are not items may have such an end too.
 pub fn behind_items(bytes: &[u8], count: u64) -> Option<&[u8]>
     ensures { FindsBehindItems (λ s. s.now) bytes.now count result }
 {
@@ -54,7 +56,7 @@ pub fn behind_items(bytes: &[u8], count: u64) -> Option<&[u8]>
     Some(rest)
 }
 
-/// The bytes after the item at the front, as `behind_items` finds them.
+/// Returns the bytes after the item at the front, as `behind_items` finds them.
 pub fn behind_item(bytes: &[u8]) -> Option<&[u8]>
     ensures { FindsBehindItems (λ s. s.now) bytes.now 1 result }
 {

@@ -1,4 +1,4 @@
-//! Reading a slice as one item of any kind.
+//! Reads a slice as one item of any kind.
 
 ghost use Rattle.std.specs.Prelude.{◌≡◌, Some, [], true, IfOk, IfErr};
 ghost use Rattle.dagcbor_core.specs.Steps.{default_steps};
@@ -15,8 +15,8 @@ use ipld_tree::Ipld;
 use std::alloc::Global;
 use std::convert::Infallible;
 
-/// The data whose spelling is these bytes, as `from_slice` answers it. Its contract also names the
-/// cause of a refusal.
+/// Returns the data of which these bytes are the spelling, as `from_slice` does. Its contract also
+/// names the cause of a refusal.
 ///
 /// ```rust
 /// let place = r#"Err(NonMinimal { name: "u64", found: 24 })"#;
@@ -32,14 +32,14 @@ pub fn any_from_slice(alloc: Global, bytes: &[u8]) -> Result<Ipld, DecodeError<I
     Ok(value)
 }
 
-/// The bytes as an input, which lends them, with a budget of `DEFAULT_STEPS`.
+/// Returns the bytes as an input, which lends them, with a budget of `DEFAULT_STEPS`.
 fn lent<'de>(bytes: &'de [u8]) -> Input<'de, SliceReader<'de>>
     ensures { input_reading (λ r. r) result ≡ fresh_reading (Some bytes.now) default_steps true [] }
 {
     Input::Slice(SliceReader::new(bytes))
 }
 
-/// Takes nothing: `TrailingData` if a byte is left.
+/// Refuses with `TrailingData` if a byte is left. Takes nothing.
 fn pull_end<R: Read>(reader: &mut R) -> ReadResult<(), R>
     ensures { PullsEnd (R.reading reader.old) result (R.reading reader.new) }
 {

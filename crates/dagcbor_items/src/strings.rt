@@ -1,4 +1,4 @@
-//! Reading texts, characters and byte strings.
+//! Reads texts, characters and byte strings.
 
 ghost use Rattle.std.specs.Prelude.{◌≡◌, ◌<◌, ◌↔◌, true, IfOk, IfSome, MatchOption, IsUtf8, IfErr};
 ghost use Rattle.std.specs.Prelude.{length, string_bytes, false, List, ℕ, ◌+◌};
@@ -27,7 +27,7 @@ use dagcbor_heads::{Input, Read, ReadResult, pull_head, pull_payload};
 use std::alloc::{AllocError, Global};
 use std::borrow::{CowSlice, CowStr};
 
-/// The bytes of a string whose first byte has the major type, lent if the input lends.
+/// Reads a string whose first byte has the major type. Its bytes are lent if the input lends.
 #[tactic(auto, using(crate::proofs::PartRefusals::named_kind, crate::proofs::PartRefusals::payload_kind))]
 fn pull_peeked_string<'de, R: Read>(
     alloc: Global,
@@ -50,7 +50,7 @@ fn pull_peeked_string<'de, R: Read>(
     pull_payload(alloc, name, input, count)
 }
 
-/// The bytes as a text, in their memory.
+/// Returns the bytes as a text, in the same memory, or `None` if they are not UTF-8.
 fn owned_text_of(bytes: Vec<u8>) -> Option<String>
     ensures { MatchOption result (¬ IsUtf8 bytes.items)
         (λ s. (string_bytes s ≡ bytes.items) × IsUtf8 bytes.items) }
@@ -59,7 +59,7 @@ fn owned_text_of(bytes: Vec<u8>) -> Option<String>
     Some(unsafe { String::from_utf8_unchecked(bytes) })
 }
 
-/// The payload as a text, lent if the payload is.
+/// Returns the payload as a text, lent if the payload is, or `None` if it is not UTF-8.
 fn text_of<'de>(payload: CowSlice<'de, u8>) -> Option<CowStr<'de>>
     ensures text { MatchOption result (¬ IsUtf8 (cow_slice_items payload.entry))
         (λ s. (cow_str_bytes s ≡ cow_slice_items payload.entry) × IsUtf8 (cow_str_bytes s)) }
@@ -71,7 +71,7 @@ fn text_of<'de>(payload: CowSlice<'de, u8>) -> Option<CowStr<'de>>
     }
 }
 
-/// A byte string whose first byte has its major type, lent if the input lends.
+/// Reads a byte string whose first byte has its major type, lent if the input lends.
 #[tactic(auto, using(crate::proofs::StringReads::bytes_read))]
 pub(crate) fn pull_peeked_slice<'de, R: Read>(
     alloc: Global,
@@ -89,7 +89,7 @@ pub(crate) fn pull_peeked_slice<'de, R: Read>(
     pull_peeked_string(alloc, "bytes", input, 2)
 }
 
-/// A byte string, lent if the input lends.
+/// Reads a byte string, lent if the input lends.
 #[tactic(auto, using(crate::proofs::PartRefusals::byte_kind))]
 pub fn pull_slice<'de, R: Read>(
     alloc: Global,
@@ -107,7 +107,7 @@ pub fn pull_slice<'de, R: Read>(
     pull_peeked_slice(alloc, input)
 }
 
-/// A text whose first byte has its major type, lent if the input lends.
+/// Reads a text whose first byte has its major type, lent if the input lends.
 #[tactic(auto, using(crate::proofs::PartRefusals::kind_text))]
 pub(crate) fn pull_peeked_str<'de, R: Read>(
     alloc: Global,
@@ -132,7 +132,7 @@ pub(crate) fn pull_peeked_str<'de, R: Read>(
     }
 }
 
-/// What refuses a payload that is no text.
+/// Returns the refusal of a payload that is not a text.
 #[cold]
 #[inline(never)]
 pub(crate) fn no_text<E>(name: &str) -> DecodeError<E>
@@ -143,7 +143,7 @@ pub(crate) fn no_text<E>(name: &str) -> DecodeError<E>
     }
 }
 
-/// The text at the front, and how many bytes it has with its head.
+/// Returns the text at the front, and how many bytes it has with its head.
 #[inline(always)]
 fn split_text(front: &[u8]) -> Option<(&str, usize)>
     ensures { IfSome result (λ p. (rest : List ℕ) × IsFront front.now (text p.0.now) rest
@@ -157,7 +157,7 @@ fn split_text(front: &[u8]) -> Option<(&str, usize)>
     Some((as_text(payload)?, front.len() - rest.len()))
 }
 
-/// A text in memory of its own. An empty one takes none.
+/// Copies a text to newly allocated memory. An empty text takes no memory.
 fn copy_text(alloc: Global, text: &str) -> Result<String, AllocError>
     ensures text { IfOk result (λ s. string_bytes s ≡ text.now) }
     ensures memory { IfErr result (λ _. 0 < length text.now) }
@@ -168,8 +168,8 @@ fn copy_text(alloc: Global, text: &str) -> Result<String, AllocError>
     String::from_str(alloc, text)
 }
 
-/// Takes the text at the front into memory of its own, if the input lends nothing and all of it is
-/// at hand. Else, and if memory is wanted, nothing is taken.
+/// Takes the text at the front into newly allocated memory, if the input does not lend and all of
+/// the text is at hand. Else, or if memory runs out, takes nothing.
 fn take_copied<R: Read>(
     alloc: Global,
     input: &mut Input<'_, R>,
@@ -200,7 +200,7 @@ fn take_copied<R: Read>(
     }
 }
 
-/// A text, read byte by byte: a refusal names its cause.
+/// Reads a text byte by byte, so that a refusal names its cause.
 #[tactic(auto, using(crate::proofs::PartRefusals::byte_text))]
 #[cold]
 #[inline(never)]
@@ -221,7 +221,7 @@ fn pull_str_slowly<'de, R: Read>(
     pull_peeked_str(alloc, name, input)
 }
 
-/// A text, lent if the input lends. Refusals carry the name.
+/// Reads a text, lent if the input lends. Refusals carry the name.
 #[inline(always)]
 pub fn pull_str<'de, R: Read>(
     alloc: Global,
@@ -249,7 +249,7 @@ pub fn pull_str<'de, R: Read>(
     }
 }
 
-/// The text in memory of its own. An empty one takes none.
+/// Returns the text in memory of its own. An empty text takes no memory.
 fn own_text(alloc: Global, text: CowStr<'_>) -> Result<String, AllocError>
     ensures text { IfOk result (λ s. string_bytes s ≡ cow_str_bytes text.entry) }
     ensures memory { IfErr result (λ _. 0 < length (cow_str_bytes text.entry)) }
@@ -260,7 +260,7 @@ fn own_text(alloc: Global, text: CowStr<'_>) -> Result<String, AllocError>
     text.into_owned(alloc)
 }
 
-/// The bytes in memory of their own. If there are none, none is taken.
+/// Returns the bytes in memory of their own. No bytes take no memory.
 fn own_bytes(alloc: Global, bytes: CowSlice<'_, u8>) -> Result<Vec<u8>, AllocError>
     ensures bytes { IfOk result (λ v. v.items ≡ cow_slice_items bytes.entry) }
     ensures memory { IfErr result (λ _. 0 < length (cow_slice_items bytes.entry)) }
@@ -271,7 +271,7 @@ fn own_bytes(alloc: Global, bytes: CowSlice<'_, u8>) -> Result<Vec<u8>, AllocErr
     bytes.into_owned(alloc)
 }
 
-/// A text whose first byte has its major type.
+/// Reads a text whose first byte has its major type into memory of its own.
 pub(crate) fn pull_peeked_owned_text<R: Read>(
     alloc: Global,
     input: &mut Input<'_, R>,
@@ -289,7 +289,7 @@ pub(crate) fn pull_peeked_owned_text<R: Read>(
     }
 }
 
-/// A text of its own, even if the input lends.
+/// Reads a text into memory of its own, even if the input lends.
 #[tactic(auto, using(crate::proofs::PartRefusals::byte_text))]
 pub fn pull_owned_text<R: Read>(alloc: Global, input: &mut Input<'_, R>) -> ReadResult<String, R>
     ensures text { OverInput R.reading ReadsOwnedText input.old result input.new }
@@ -304,7 +304,7 @@ pub fn pull_owned_text<R: Read>(alloc: Global, input: &mut Input<'_, R>) -> Read
     }
 }
 
-/// A byte string whose first byte has its major type.
+/// Reads a byte string whose first byte has its major type into memory of its own.
 pub(crate) fn pull_peeked_owned_bytes<R: Read>(
     alloc: Global,
     input: &mut Input<'_, R>,
@@ -322,7 +322,7 @@ pub(crate) fn pull_peeked_owned_bytes<R: Read>(
     }
 }
 
-/// A byte string of its own, even if the input lends.
+/// Reads a byte string into memory of its own, even if the input lends.
 #[tactic(auto, using(crate::proofs::PartRefusals::byte_kind))]
 pub fn pull_owned_bytes<R: Read>(alloc: Global, input: &mut Input<'_, R>) -> ReadResult<Vec<u8>, R>
     ensures bytes { OverInput R.reading ReadsOwnedBytes input.old result input.new }
@@ -335,7 +335,7 @@ pub fn pull_owned_bytes<R: Read>(alloc: Global, input: &mut Input<'_, R>) -> Rea
     pull_peeked_owned_bytes(alloc, input)
 }
 
-/// The one character of a text.
+/// Returns the character of a text that has exactly one.
 #[tactic(auto, using(crate::proofs::Characters::two_chars, crate::proofs::Characters::one_char))]
 fn only_char(text: &str) -> Option<char>
     ensures { result ≡ only (chars text.now) }
@@ -348,7 +348,7 @@ fn only_char(text: &str) -> Option<char>
     }
 }
 
-/// A text of one character.
+/// Reads a text of one character.
 #[tactic(auto, using(crate::proofs::PartRefusals::text_char))]
 pub fn pull_char<R: Read>(alloc: Global, input: &mut Input<'_, R>) -> ReadResult<char, R>
     ensures character { OverInput R.reading ReadsChar input.old result input.new }

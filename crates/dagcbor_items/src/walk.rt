@@ -1,4 +1,4 @@
-//! Going through items of any kind, as `any` reads them, without building anything. The caller
+//! Walks through items of any kind, as `any` reads them, without building anything. The caller
 //! decides how their strings are read, and what is done with their links.
 
 ghost use Rattle.std.specs.Prelude.{◌≡◌, ◌≢◌, ◌≤◌, ◌/◌, ◌%◌, IfErr};
@@ -22,8 +22,8 @@ use dagcbor_heads::{
 use ipld_tree::Cid;
 use std::alloc::Global;
 
-/// Skips an item of any kind, no deeper than the steps that are left. Over a slice it takes no
-/// memory.
+/// Skips an item of any kind, at most as deep as the steps left. It takes no memory if the input is
+/// a slice.
 pub fn skip_any<R: Read>(alloc: Global, input: &mut Input<'_, R>) -> ReadResult<(), R>
     ensures item { OverInput R.reading SkipsItem input.old result input.new }
     ensures looked { OverInput R.reading (Looks 3) input.old result input.new }
@@ -32,7 +32,7 @@ pub fn skip_any<R: Read>(alloc: Global, input: &mut Input<'_, R>) -> ReadResult<
     walk_any(alloc, input, &mut NoLinks)
 }
 
-/// The links of an item of any kind, left to right, repeats kept.
+/// Returns the links of an item of any kind, in order, with repeats.
 pub fn gather_links<R: Read>(alloc: Global, input: &mut Input<'_, R>) -> ReadResult<Vec<Cid>, R>
     ensures links { OverInput R.reading GathersLinks input.old result input.new }
     ensures looked { OverInput R.reading (Looks 3) input.old result input.new }
@@ -43,8 +43,8 @@ pub fn gather_links<R: Read>(alloc: Global, input: &mut Input<'_, R>) -> ReadRes
     Ok(links)
 }
 
-/// Goes through an item of any kind, no deeper than the steps that are left, and hands its links
-/// on.
+/// Walks through an item of any kind, at most as deep as the steps left, and hands its links to the
+/// sink.
 #[cycle(walk)]
 #[inline(always)]
 pub fn walk_any<I: PayloadReader, S: LinkSink>(
@@ -63,7 +63,7 @@ pub fn walk_any<I: PayloadReader, S: LinkSink>(
     walk_by_bytes(alloc, input, links)
 }
 
-/// Goes through an item, byte by byte: a refusal names its cause.
+/// Walks through an item byte by byte, so that a refusal names its cause.
 #[tactic(auto, using(crate::proofs::PartRefusals::depth_item))]
 #[cycle(walk)]
 fn walk_by_bytes<I: PayloadReader, S: LinkSink>(
@@ -138,7 +138,7 @@ fn walk_link<R: Read, S: LinkSink>(reader: &mut R, links: &mut S) -> ReadResult<
     }
 }
 
-/// Skips an item that is no list, map or link.
+/// Skips an item that is not a list, a map or a link.
 #[tactic(auto, using(crate::proofs::PartRefusals::kind_item, crate::proofs::PartRefusals::text_item))]
 fn skip_leaf<I: PayloadReader>(alloc: I::Alloc, input: &mut I, first: u8) -> ReadResult<(), I>
     requires starts { StartsWith (I.reading input.old) first }

@@ -1,4 +1,4 @@
--- The pairs of a map, handed over one after another.
+-- The pairs of a map, given one after another.
 use Rattle.std.proofs.Common.{◌≡◌, ◌⊎◌, inl, inr, ℕ, zero, suc, List, [], ◌∷◌, ◌++◌, length, map, Option, None, Some, Bool, true, false, cond, Result, Ok, Err, refl, sym, ap, ◌∙◌, subst, append_assoc, append-nil, Any, IfSome, is_some, MatchResult, option_map, option_and_then, ◌<◌, ◌^◌, take, drop, get_or, arith, drop-cons, take-append-drop, IsErrAnd, OnErr}
 use Rattle.std.specs.Fmt.{◌++?◌}
 use Rattle.std.specs.Map.Iter.{TakesFirst}
@@ -44,7 +44,7 @@ later None os h = tt
 later (Some q) None h = tt
 later (Some q) (Some qs) h = (h.0, inr h.1, h.2)
 
--- the pair has no spelling, or a key that is no text
+-- the pair has no spelling, or its key is not a text
 abbrev pub CannotBeWritten : Pair → Type 0
 CannotBeWritten p = (spelled_key p.0 ≡ None) ⊎ (spelled_tree p.1 ≡ None)
 
@@ -113,7 +113,7 @@ begin_struct ps n s e = begin_writing _ _ s (spelled_map ps n e ∙ ap (λ x. sp
 
 -- ---- step by step
 
--- of the pairs of a map, all but these have been handed over: each is held, as R says
+-- all pairs of a map but these have been given; each one given is held, as R says
 pub record Given-but {X : Type 0} (R : Pair → X → Type 0) (whole left : List Pair) (held : List X) : Type 0 where
   pub done : List Pair
   pub split : whole ≡ done ++ left
@@ -137,11 +137,11 @@ end_of : (xs : List Pair) → xs ++ [] ≡ xs
 end_of [] = refl
 end_of (x ∷ xs) = ap (λ ys. x ∷ ys) (end_of xs)
 
--- no entry of a map that is collected has been handed over
+-- no entry of the collected map has been given yet
 pub begin_entries : (whole : List Pair) (held : List Texts) → held ≡ [] → Given-but IsSpellingOf whole whole held
 begin_entries = begin_map IsSpellingOf
 
--- one more entry of it was handed over
+-- one more entry of the map was given
 pub next_entry : {whole left : List Pair} {p : Pair} {old : List Texts} → Given-but IsSpellingOf whole (p ∷ left) old → (new : List Texts) → JoinsEntry p.0 p.1 old new → Given-but IsSpellingOf whole left new
 next_entry {whole} {left} {p} {old} w new j =
     let e = joined_spelling p _ _ old new refl refl j.0.0 j.1 j.0.1 in
@@ -164,7 +164,7 @@ refusal_stops {E} whole s t Cause (Msg m) f p same = let P : Written → Type 0 
 refusal_stops whole s t Cause (Write e) f p same = absurd p
 refusal_stops {E} whole s t Cause OutOfMemory f p same = let P : Written → Type 0 = λ u. Stops {E = E} whole s u OutOfMemory in subst P same (wrote_nothing whole s, refl, refl)
 
--- a text is refused as a key for want of memory alone
+-- as a key, a text is refused only if the call is out of memory
 pub only_value : {T E : Type 0} (Taken : T → Type 0) (name : List ℕ) (value : Option Tree) (r : Result T (EncodeError E)) → length name < 2 ^ 64 → Collects Taken (IsEntryMessage (Some (text name)) value) r → Collects Taken (IsValueMessage value) r
 only_value Taken name value (Ok x) h t = t
 only_value Taken name value (Err (Msg m)) h (inl (inl n)) = let differ : Some (text_spelling name) ≡ None = sym ((spelled_is (text name) (text_spelling name)).1 (h, refl)) ∙ n.1 in cc
@@ -173,7 +173,7 @@ only_value Taken name value (Err (Msg m)) h (inr n) = n
 only_value Taken name value (Err (Write e)) h t = t
 only_value Taken name value (Err OutOfMemory) h t = t
 
--- the exit of a `?`, where nothing has gone out
+-- the exit of a `?`, when nothing was written
 exit_unsent : {T E : Type 0} (whole : Option (List ℕ)) (s t : Written) (Cause : List ℕ → Type 0) (r : Result T (EncodeError E)) (e : EncodeError E) → ((m : List ℕ) → Cause m → whole ≡ None) → Refused Cause e → IsErrAnd r (λ d. d ≡ e) → s ≡ t → Writes whole s t r
 exit_unsent whole s t Cause (Ok x) e f p is same = absurd is
 exit_unsent {T} {E} whole s t Cause (Err d) e f p is same = let P : EncodeError E → Type 0 = λ y. Stops whole s t y in subst P (sym is) (refusal_stops whole s t Cause e f p same)
@@ -191,13 +191,13 @@ pub Writes_from : {T E : Type 0} (whole : Option (List ℕ)) (s t u v : Written)
 Writes_from {T} {E} whole s t u v r e f w =
     let P : Written → Type 0 = λ x. Writes whole x u r in let Q : Written → Type 0 = λ x. Writes whole s x r in subst Q f (subst P e w)
 
--- the end of a map, of which nothing has gone out
+-- the end of a map of which nothing was written
 pub end_map : {T E : Type 0} {whole : List Pair} {held : List Texts} (announced : Option ℕ) → Given-but IsSpellingOf whole [] held → announced ≡ None → (s t u v : Written) (r : Result T (EncodeError E))
     → ((given : List Pair) → AreSpellingsOf given held → Writes (map_rest (is_some announced) given) t u r) → t ≡ s → u ≡ v → Writes (spelled_tree (entries_tree whole)) s v r
 end_map {T} {E} {whole} {held} announced w none s t u v r told e f =
     let P : Option ℕ → Type 0 = λ a. Writes (map_rest (is_some a) whole) t u r in Writes_from (map_rest false whole) s t u v r e f (subst P none (told whole (all_given w)))
 
--- the end of a map whose head went out at the beginning
+-- the end of a map whose head was written at the beginning
 pub end_struct : {T E : Type 0} {W h : Option (List ℕ)} (n : ℕ) {whole : List Pair} {held : List Texts} {start s : Written} (announced : Option ℕ) → Written-but W (h ∷ map_rest true whole ∷ []) start start → WroteAll h start s → Given-but IsSpellingOf whole [] held → announced ≡ Some n → (t u v : Written) (r : Result T (EncodeError E))
     → ((given : List Pair) → AreSpellingsOf given held → Writes (map_rest (is_some announced) given) t u r) → t ≡ s → u ≡ v → Writes W start v r
 end_struct {T} {E} {W} {h} n {whole} {held} {start} {s} announced begun out w is t u v r told e f =
@@ -208,7 +208,7 @@ end_struct {T} {E} {W} {h} n {whole} {held} {start} {s} announced begun out w is
 pub left_as : {X : Type 0} {R : Pair → X → Type 0} {whole left more : List Pair} {held : List X} → left ≡ more → Given-but R whole left held → Given-but R whole more held
 left_as {X} {R} {whole} {left} {more} {held} is w = let P : List Pair → Type 0 = λ ps. Given-but R whole ps held in subst P is w
 
--- the iterator of a map shows as the list that it has left
+-- the items that the iterator of a map has left are its list
 pub list_shows : {A X : Type 0} (shows : A → X) (pair : X → Pair) → ShowsPairs (TakesFirst shows) (λ e. pair (shows e)) (map pair)
 list_shows shows pair s None t h = (ap (map pair) h.0, ap (map pair) h.1)
 list_shows shows pair s (Some x) t h = ap (map pair) h

@@ -35,7 +35,7 @@ map_kind j m is sorted =
     ∙ ap (λ b. cond b None (Some (mapping (ordered_entries (pairs_of m.entries))))) (test_from_distinct (pairs_of m.entries) (distinct_entries m.entries sorted))
     ∙ ap Some (sym (tree_of_Map m) ∙ ap tree_of (sym is))
 
--- what is the spelling of a tree is that of the tree under another name
+-- the spelling of a tree is that of the same tree under another name
 pub Writes_tree : {T E : Type 0} (a : Option Tree) (t : Tree) (s u : Written) (r : Result T (EncodeError E)) → a ≡ Some t → Writes (spelled_tree a) s u r → Writes (spelled t) s u r
 Writes_tree {T} {E} a t s u r e w = let P : Option Tree → Type 0 = λ x. Writes (spelled_tree x) s u r in subst P e w
 
@@ -47,7 +47,7 @@ good_tree {T} {E} a t r e w = let P : Option Tree → Type 0 = λ x. OnOk r (IfS
 tree_of_Integer : (n : ℤ) → tree_of (Integer' n) ≡ integer n
 tree_of_Integer n = search (rules, the_lemmas)
 
--- an integer's is its own
+-- the message of an integer is its own
 pub integer_told : {T E Writer : Type 0} (j : Ipld) (n : ℤ) (s t : Writer) (r : Result T (EncodeError E)) → j ≡ Integer' n → IfErr r (OnMessage (λ m. (m ≡ codes "Integer must be within [-u64::MAX-1, u64::MAX] range") × (t ≡ s))) → IfErr r (OnMessage (tree_message (tree_of j)))
 integer_told {T} {E} {Writer} j n s t r is h =
     let P : Tree → Type 0 = λ x. IfErr r (OnMessage (tree_message x)) in
@@ -58,17 +58,17 @@ items_told [] m h = absurd (omega (arith, h.2))
 items_told (x ∷ xs) m (zero, y, inside, at, h) = let P : Ipld → Type 0 = λ z. (spelled (tree_of z) ≡ None) × tree_message (tree_of z) m in inl (subst P (sym at) h)
 items_told (x ∷ xs) m (suc k, y, inside, at, h) = inr (items_told xs m (k, y, omega (arith, inside), at, h))
 
--- a list's is that of an item
+-- the message of a list is that of an item
 pub list_told : {T E : Type 0} (j : Ipld) (v : Vec Ipld Global) (r : Result T (EncodeError E)) → j ≡ List' v → IfErr r (OnMessage (IsMessageOfAny (λ x. Some (tree_of x)) (λ x. tree_message (tree_of x)) v.items)) → IfErr r (OnMessage (tree_message (tree_of j)))
 list_told {T} {E} j v r is h =
     let P : Tree → Type 0 = λ x. IfErr r (OnMessage (tree_message x)) in
     subst P (sym (ap tree_of is ∙ tree_of_List v)) (message_tells (IsMessageOfAny (λ x. Some (tree_of x)) (λ x. tree_message (tree_of x)) v.items) (items_message (items_of (map tree_of v.items))) r (items_told v.items) h)
 
--- a map's is that of a value
+-- the message of a map is that of a value
 pub map_told : {T E : Type 0} (j : Ipld) (es : BTreeMap (String Global) Ipld) (r : Result T (EncodeError E)) → j ≡ Map' es → IfErr r (IsMessage (codes "Struct value cannot be serialized.")) → IfErr r (OnMessage (tree_message (tree_of j)))
 map_told {T} {E} j es r is h = let P : Tree → Type 0 = λ x. IfErr r (OnMessage (tree_message x)) in subst P (sym (ap tree_of is ∙ tree_of_Map es)) h
 
--- a list and a map are no integers
+-- a list and a map are not integers
 not_integer : {P : Type 0} (t u : Tree) → t ≡ u → is_integer u ≡ false → IsTrue (is_integer t) → P
 not_integer t u is e h = let differ : false ≡ true = sym e ∙ ap is_integer (sym is) ∙ search h in absurd (cc differ)
 

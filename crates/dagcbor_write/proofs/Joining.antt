@@ -15,7 +15,7 @@ use Rattle.dagcbor_write.specs.Rows.{spelled_pairs, ArePairs, KeysRise, KeysRise
 use Rattle.dagcbor_write.proofs.Fields.{other_lacks}
 use Rattle.dagcbor_write.proofs.Parts.{begin_two}
 
--- ---- the pairs that are handed over
+-- ---- the pairs that are given
 
 spellings_join : (ps qs : List Pair) (xs ys : List Texts) → AreSpellingsOf ps xs
     → AreSpellingsOf qs ys → AreSpellingsOf (ps ++ qs) (xs ++ ys)

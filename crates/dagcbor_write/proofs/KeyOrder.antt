@@ -1,4 +1,4 @@
--- Pairs whose keys alone are spelled: in the order of these spellings they are the map.
+-- Pairs of which only the keys are spelled: in the order of these spellings they are the map.
 use Rattle.std.proofs.Common.{◌≡◌, ℕ, suc, ◌+◌, ◌<◌, drop, take, List, [], ◌∷◌, ◌++◌, length, get_or, map, Option, None, Some, Bool, true, false, Less, Result, Ok, Err, refl, sym, ap, ap₂, ◌∙◌, subst, arith, add-one, append-nil, drop-cons, IfSome, IsSomeAnd, OnOk, option_and_then, is_lt}
 use Rattle.std.specs.Fmt.{◌++?◌}
 use Rattle.ipld_tree.specs.Key.{bytes_cmp, key_cmp}
@@ -65,7 +65,7 @@ module _ {A : Type 0} (tree : A → Option Tree) where
 
   -- ---- entries in order
 
-  -- no entry goes before the one before it, and their keys differ
+  -- no entry comes before the previous one, and their keys differ
   record AreInOrder (es : List (List ℕ × A)) : Type 0 where
     pub late : (k : ℕ) (d : List ℕ × A) → suc k < length es → key_goes_before (get_or es (suc k) d) (get_or es k d) ≡ false
     pub differ : (k : ℕ) (d : List ℕ × A) → suc k < length es → (get_or es k d).0 ≡ (get_or es (suc k) d).0 → ⊥
@@ -116,7 +116,7 @@ module _ {A : Type 0} (tree : A → Option Tree) where
         good = λ g. subst P (sym same) (row.1 (keyed_good moved.0 fs moved.2 g));
       }
 
-  -- where a key repeats there is no map
+  -- if a key repeats, there is no map
   pub keyed_repeats : (ps : List Pair) (es fs : List (List ℕ × A)) → AreKeyedBy ps es → PutsKeysInOrder es fs false → spelled_tree (entries_tree ps) ≡ None
   keyed_repeats ps es fs w o =
       let moved = beside (IsKeyedBy tree) ps es fs o.0 w in

@@ -1,4 +1,4 @@
--- A key is a text exactly where its spelling begins as one.
+-- A key is a text if and only if its spelling begins as one.
 use Rattle.std.proofs.Common.{◌≡◌, ℕ, ◌+◌, ◌*◌, ◌/◌, ◌<◌, List, [], ◌∷◌, ◌++◌, length, drop, ◌-◌, pos, negsuc, Option, None, Some, Bool, true, false, refl, sym, ap, ◌∙◌, subst, arith, take_all, length-drop, slice_range, IfSome, nat_eq, option_and_then}
 use Rattle.ipld_tree.specs.Tree.{Tree, integer, text, IsTree, key_of}
 use Rattle.ipld_tree.specs.Spelling.{IsFront, spelling}

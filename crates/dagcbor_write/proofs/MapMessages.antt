@@ -1,4 +1,4 @@
--- Why a map that is at hand is refused with a message.
+-- Why a map in memory is refused with a message.
 use Rattle.std.proofs.Common.{◌≡◌, ℕ, suc, ◌<◌, List, [], ◌∷◌, ◌++◌, length, get_or, map, Option, None, Some, Bool, true, false, ◌||◌, is_none, IsTrue, Result, inl, inr, refl, sym, ap, ap₂, ◌∙◌, subst, arith, add-one, codes, IfErr, IsSomeAnd, Any, IsErrAnd}
 use Rattle.std.specs.List.{list_any}
 use Rattle.std.specs.Map.{keys_of}
@@ -39,7 +39,7 @@ key_message {T} {E} {X} {Writer} {R} {whole} {left} {p} {held} {s} {t} w r e h i
     by (Msg m) h = let P : List Pair → Type 0 = λ ps. RefusesAnyKey ps (message_bytes m) in inl (inl (subst P (sym w.split) (any_in (λ q. IsKeyMessage q.0 (message_bytes m)) w.done left p h)), same)
     by _ h = tt
 
--- what it is, wherever the writer stands
+-- what the message is, whatever the writer holds
 pub entries_told : {T E Writer : Type 0} (s t : Writer) (ps : List Pair) (r : Result T (EncodeError E)) → IfErr r (OnMessage (RefusesMap s t ps)) → IfErr r (OnMessage (RefusesEntries ps))
 entries_told s t ps r h = message_tells (RefusesMap s t ps) (RefusesEntries ps) r (λ m k. elim k [ inl a ↦ inl a.0 | inr b ↦ inr b ]) h
 

@@ -70,7 +70,7 @@ module _ {A B : Type 0} (R : A → B → Type 0) where
   pairwise_push (w ∷ xs) (z ∷ ys) x y p r = (p.0, pairwise_push xs ys x y p.1 r)
   pairwise_push _ _ x y p r = absurd p
 
-  -- what stands beside a list that changes places
+  -- the list beside a list whose elements change places
   pub beside : (xs : List A) (ys zs : List B) → IsPermutation ys zs → Pairwise R xs ys → (ws : List A) × IsPermutation xs ws × Pairwise R ws zs
   beside xs ys zs moved p =
       IsPermutation-keeps ys (λ l. (ws : List A) × IsPermutation xs ws × Pairwise R ws l) (xs, IsPermutation-refl xs, p)
@@ -97,7 +97,7 @@ pairs_named (p ∷ ps) (e ∷ es) h =
     let more = pairs_named ps es h.1 in
     (first.0 ∷ more.0, joins (pair_of p) (all_some (map pair_of ps)) first.0 more.0 first.1 more.1, (first.2, more.2))
 
--- ---- entries stand in the order of their bytes as the names do in key order
+-- ---- entries in the order of their bytes are in the key order of their names
 
 fits : (k s : List ℕ) → spelled (text k) ≡ Some s → (length k < 2 ^ 64) × (s ≡ text_spelling k)
 fits k s e = (spelled_is (text k) s).0 e
@@ -111,7 +111,7 @@ same_text k l s t h j same =
     let b = fits l t j in
     ap payload (spelling_unique (text k) (text l) [] [] a.0 b.0 (ap (λ x. x ++ []) (sym a.1 ∙ same ∙ b.1))).0
 
--- spelled keys that stand in the order of their bytes, whatever is after them, and differ
+-- spelled keys that are in the order of their bytes, whatever is after them, and differ
 pub follows : (k l s t x y : List ℕ) → spelled (text k) ≡ Some s → spelled (text l) ≡ Some t → is_lt (bytes_cmp (t ++ y) (s ++ x)) ≡ false → (s ≡ t → ⊥) → key_cmp k l ≡ Less
 follows k l s t x y h j late differ =
     let a = fits k s h in
@@ -199,7 +199,7 @@ record IsRow (ps : List Pair) (names : List Named) : Type 0 where
   pub count : length names ≡ length ps
   pub good : ArePairs ps → EachPair IsGoodPair names
 
--- these are the names of the pairs, and their trees, where each value has one
+-- these are the names of the pairs, and their trees, if each value has one
 abbrev NamesRow : List Pair → Option (List Named) → Type 0
 NamesRow ps None = spelled_pairs ps ≡ None
 NamesRow ps (Some names) = IsRow ps names
@@ -254,7 +254,7 @@ mapping_text : (names : List Named) → spelled (mapping (entries_of names)) ≡
 unfolding spelled
 mapping_text names = ap (λ n. spelled_head 5 n ++? spelled_entries (entries_of names)) (count_is names)
 
--- the map of a row whose keys rise, also where a value has no text
+-- the map of a row whose keys rise, even if a value has no text
 pub row_map : (ps : List Pair) (n : ℕ) → n ≡ length ps → Rises ps → (spelled_tree (entries_tree ps) ≡ spelled_head 5 n ++? spelled_pairs ps) × (ArePairs ps → IfSome (entries_tree ps) IsTree)
 row_map ps n count r = by (all_some (map pair_of ps)) refl (names_of ps r)
   where
@@ -279,7 +279,7 @@ has_text : (o : Option (List ℕ)) (bs : List ℕ) → AppendsTo [] bs o → o �
 has_text None bs h = absurd h
 has_text (Some t) bs h = ap Some (sym h)
 
--- what is written of a row whose keys rise is the map of its pairs
+-- the bytes written for a row whose keys rise are the map of its pairs
 pub rising_map : (ps : List Pair) (n : ℕ) (bs : List ℕ) → n ≡ length ps → AppendsTo [] bs (spelled_pairs ps) → ArePairs ps → KeysRise [] ps → (spelled_tree (entries_tree ps) ≡ spelled_head 5 n ++? Some bs) × IfSome (entries_tree ps) IsTree
 rising_map ps n bs count h g r =
     let row = row_map ps n count (rises_behind [] ps r) in
@@ -315,7 +315,7 @@ rest_None : (out : Bool) (ps : List Pair) → entries_tree ps ≡ None → map_r
 rest_None false ps e = ap spelled_tree e
 rest_None true ps e = ap entries_text e
 
--- where a key repeats there is no map
+-- if a key repeats, there is no map
 pub no_order : (out : Bool) (ps : List Pair) (es fs : List Texts) → AreSpellingsOf ps es → PutsInOrder es fs false → (map_rest out ps ≡ None) × RepeatsKey ps
 no_order out ps es fs h o =
     let given = pairs_named ps es h in

@@ -27,17 +27,17 @@ module _ {T E : Type 0} where
   exit_message P (Ok x) e is h = absurd is
   exit_message P (Err d) e is h = let Q : EncodeError E → Type 0 = λ y. OnMessage P y in subst Q (sym is) h
 
-  -- a part that answers no message makes none of the whole
+  -- a part without a message adds no message to the whole
   pub none_as : (P : List ℕ → Type 0) (r : Result T (EncodeError E)) → IfErr r (OnMessage (λ _. ⊥)) → IfErr r (OnMessage P)
   none_as P (Err (Msg m)) h = absurd h
   none_as P _ h = tt
 
-  -- what holds of a message tells more of it
+  -- if P of a message implies Q, then Q holds of it too
   pub message_tells : (P Q : List ℕ → Type 0) (r : Result T (EncodeError E)) → ((m : List ℕ) → P m → Q m) → IfErr r (OnMessage P) → IfErr r (OnMessage Q)
   message_tells P Q (Err (Msg m)) more h = more _ h
   message_tells P Q _ more h = tt
 
-  -- the exit of a `?`, where what holds of the part's message tells more of it
+  -- the exit of a `?`, if what holds of the part's message implies more
   pub exit_tells : (P Q : List ℕ → Type 0) (r : Result T (EncodeError E)) (e : EncodeError E) → IsErrAnd r (λ d. d ≡ e) → ((m : List ℕ) → P m → Q m) → OnMessage P e → IfErr r (OnMessage Q)
   exit_tells P Q r e is more h = exit_message Q r e is (by e h)
     where
@@ -45,15 +45,15 @@ module _ {T E : Type 0} where
       by (Msg m) h = more _ h
       by _ h = tt
 
-  -- of two facts of a message the first
+  -- the first of two facts about a message
   pub first_told : (P Q : List ℕ → Type 0) (r : Result T (EncodeError E)) → IfErr r (OnMessage (λ m. P m × Q m)) → IfErr r (OnMessage P)
   first_told P Q r h = message_tells (λ m. P m × Q m) P r (λ m k. k.0) h
 
-  -- where the second is that the writer is as it was, nothing was written
+  -- if the second is that the writer is as it was, nothing was written
   pub left_unsent : {Writer : Type 0} (written : Writer → Written) (P : List ℕ → Type 0) (s t : Writer) (r : Result T (EncodeError E)) → IfErr r (OnMessage (λ m. P m × (t ≡ s))) → IfErr r (OnMessage (λ m. written t ≡ written s))
   left_unsent written P s t r h = message_tells (λ m. P m × (t ≡ s)) (λ m. written t ≡ written s) r (λ m k. ap written k.1) h
 
-  -- so too where nothing was written before
+  -- the same, if nothing was written before
   pub still_unsent : (s mid t : Written) (r : Result T (EncodeError E)) → mid ≡ s → IfErr r (OnMessage (λ m. t ≡ mid)) → IfErr r (OnMessage (λ m. t ≡ s))
   still_unsent s mid t r same h = message_tells (λ m. t ≡ mid) (λ m. t ≡ s) r (λ m k. k ∙ same) h
 
@@ -71,7 +71,7 @@ module _ {T E : Type 0} where
       by (Msg m) w h = (i, x, inside, sym at, (w.0, h))
       by _ w h = tt
 
--- ---- a row of fields, where the writer is left as it was
+-- ---- a row of fields, if the writer is as it was
 
 module _ {T E : Type 0} (ps : List Pair) (r : Result T (EncodeError E)) where
   -- the exit of a `?` at the fields
@@ -86,7 +86,7 @@ module _ {T E : Type 0} (ps : List Pair) (r : Result T (EncodeError E)) where
   pub keys_message : {Writer : Type 0} {s t u v : Writer} → (LacksValue ps → ⊥) → IfErr r (OnMessage (λ m. RefusesKeys ps m × (u ≡ v))) → s ≡ u → v ≡ t → IfErr r (OnMessage (λ m. RefusesPairs ps m × (s ≡ t)))
   keys_message {Writer} {s} {t} {u} {v} all h earlier later = message_tells (λ m. RefusesKeys ps m × (u ≡ v)) (λ m. RefusesPairs ps m × (s ≡ t)) r (λ m k. (inr (k.0, all), earlier ∙ k.1 ∙ later)) h
 
-  -- the exit of a `?` at a head that goes out before the fields, and has a spelling
+  -- the exit of a `?` at a head that is written before the fields, and has a spelling
   pub exit_head : (head : Option (List ℕ)) (start t : Written) (e : EncodeError E) → (head ≡ None → ⊥) → Stops head start t e → IsErrAnd r (λ d. d ≡ e) → IfErr r (OnMessage (λ m. RefusesPairs ps m × WroteAll head start t))
   exit_head head start t e has h is = exit_message (λ m. RefusesPairs ps m × WroteAll head start t) r e is (by e h)
     where
@@ -94,13 +94,13 @@ module _ {T E : Type 0} (ps : List Pair) (r : Result T (EncodeError E)) where
       by (Msg m) h = absurd (has h.0)
       by _ h = tt
 
-  -- after a head that went out before the fields
+  -- after a head that was written before the fields
   pub behind_head : {Writer : Type 0} (head : Option (List ℕ)) (written : Writer → Written) (start : Written) (s t : Writer) → WroteAll head start (written t) → IfErr r (OnMessage (λ m. RefusesPairs ps m × (s ≡ t))) → IfErr r (OnMessage (λ m. RefusesPairs ps m × WroteAll head start (written s)))
   behind_head {Writer} head written start s t w h =
       let P : Writer → Type 0 = λ x. WroteAll head start (written x) in
       message_tells (λ m. RefusesPairs ps m × (s ≡ t)) (λ m. RefusesPairs ps m × WroteAll head start (written s)) r (λ m k. (k.0, subst P (sym k.1) w)) h
 
--- who may not take memory is not refused for want of it
+-- a call that may not take memory is not refused as out of memory
 pub lacks_of_wants : {T E : Type 0} (may : Bool) (untouched : Type 0) (r : Result T (EncodeError E)) → WantsMemoryOnlyIf may r → LacksBefore may untouched r
 lacks_of_wants may untouched (Ok x) h = tt
 lacks_of_wants may untouched (Err (Msg m)) h = tt

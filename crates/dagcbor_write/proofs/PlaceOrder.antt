@@ -23,7 +23,7 @@ pub begins : {A : Type 0} (xs : List A) (i : ℕ) (d : A) → i < length xs
     → drop i xs ≡ get_or xs i d ∷ drop (i + 1) xs
 begins xs i d h = rw add-one (drop-cons xs i d h)
 
--- the first of the names that are left stands after the last
+-- the first of the names that are left comes after the last one
 pub name_rises : (es : List Place) (i : ℕ) (d : Place) (last : List ℕ) → i < length es
     → comes_before last (get_or es i d).name.now ≡ true
     → names_rise last (drop i es) ≡ names_rise (get_or es i d).name.now (drop (i + 1) es)
@@ -113,7 +113,7 @@ one_more : (done : List Pair) (p : Pair) → length (done ++ p ∷ []) ≡ suc (
 one_more [] p = refl
 one_more (q ∷ done) p = ap suc (one_more done p)
 
--- the places that were listed of a row, after those of its beginning
+-- the places listed for a row, after those of its beginning
 record AreListed (row ps : List Pair) (es : List Place) : Type 0 where
   pub each : All (IsPlaceOf row) es
   pub same : map (λ e. pair_at row e.at) es ≡ ps
@@ -198,7 +198,7 @@ sorted_order ps old es lent fs seen none lists is moved same shown rise =
     let Q : List Place → Type 0 = λ gs. IsKeyOrder ps (Some gs) in
     subst Q (sym back) (key_order ps old es fs none lists (subst P is moved) rises)
 
--- what is written of a row in an order in which its keys rise is the map of its pairs
+-- the bytes written for a row in an order in which its keys rise are the map of its pairs
 pub ordered_map : (ps : List Pair) (order : Option (List Place)) (n : ℕ) (bs : List ℕ)
     → n ≡ length (in_order ps order) → AppendsTo [] bs (spelled_pairs (in_order ps order))
     → ArePairs (in_order ps order) → IsKeyOrder ps order

@@ -7,7 +7,7 @@ use Rattle.dagcbor_write.proofs.Parts.{part_opened}
 use Rattle.dagcbor_write.specs.Maps.{Texts}
 use Rattle.dagcbor_write.specs.Order.{head_rest, entries_bytes}
 
--- a head, where it is not out yet, and the entries
+-- a head, if it was not written yet, and the entries
 pub begin_entries : (out : Bool) (es : List Texts) (s : Written) → Written-but (head_rest out (length es) ++? Some (entries_bytes es)) (head_rest out (length es) ∷ Some (entries_bytes es) ∷ []) s s
 begin_entries out es s = begin_writing _ _ s (ap (λ x. head_rest out (length es) ++? x) (sym (append_Some (Some (entries_bytes es)))))
 

@@ -21,7 +21,7 @@ module _ {E : Type 0} {e : EncodeError E} {text : List ℕ} (made : (kept : Mess
   pub stops_with : (whole : Option (List ℕ)) (s : Written) → whole ≡ None → Stops whole s s e
   stops_with whole s none = subst (λ x. Stops whole s s x) (sym made.1) (none, appends_nothing s.bytes, refl, refl)
 
--- want of memory may be answered where some may be taken
+-- a call that may take memory may be out of it
 pub may_want : {T E : Type 0} (r : Result T (EncodeError E)) → WantsMemoryOnlyIf true r
 may_want (Err OutOfMemory) = cc
 may_want _ = tt

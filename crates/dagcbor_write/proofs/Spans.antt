@@ -1,4 +1,4 @@
--- Entries that stand in one buffer.
+-- Entries that are in one buffer.
 use Rattle.std.proofs.Common.{◌≡◌, ℕ, zero, suc, ◌+◌, ◌-◌, ◌<◌, ◌≤◌, List, [], ◌∷◌, ◌++◌, length, map, get_or, take, drop, Option, None, Some, Bool, true, refl, sym, ap, ap₂, ◌∙◌, subst, arith, length-append, take_all, drop-drop, length-drop, Decides, bytes_eq, IfSome, option_map, All, slice_range, IsSortedBy, is_lt}
 use Rattle.std.proofs.lemmas.List.{take-append-le, drop-append-le, get_or-map, get_or_default, length-map, map_push}
 use Rattle.std.proofs.lemmas.List.Elements.{All-get_or, All-push, recursion_from_All}
@@ -23,7 +23,7 @@ same_bytes xs ys e = decided (bytes_eq xs ys) (xs ≡ ys) (bytes_eq-Decides xs y
     decided : (b : Bool) (P : Type 0) → Decides b P → b ≡ true → P
     decided b P d e = d.0 e
 
--- the text that was appended stands after the bytes
+-- the text that was appended is after the bytes
 pub behind : (o : Option (List ℕ)) (old new : List ℕ) → AppendsTo old new o → o ≡ Some (drop (length old) new)
 behind None old new h = absurd h
 behind (Some t) old new h = ap Some (sym (drop-append_seam old t) ∙ ap (drop (length old)) (sym h))
@@ -31,7 +31,7 @@ behind (Some t) old new h = ap Some (sym (drop-append_seam old t) ∙ ap (drop (
 pub range_stays : (bs more : List ℕ) (a b : ℕ) → a ≤ b → b ≤ length bs → slice_range (bs ++ more) a b ≡ slice_range bs a b
 range_stays bs more a b h k = ap (take (b - a)) (drop-append-le a bs more (omega arith)) ∙ take-append-le (b - a) (drop a bs) more (omega (arith, length-drop a bs))
 
--- what stands within the bytes stays as it is where they grow
+-- spans within the bytes hold the same when the bytes grow
 pub all_stay : {S X : Type 0} (at : List ℕ → S → X) (Within : ℕ → S → Type 0) (bs more : List ℕ) → ((s : S) → Within (length bs) s → at (bs ++ more) s ≡ at bs s) → (ss : List S) → AllByRecursion (Within (length bs)) ss → map (at (bs ++ more)) ss ≡ map (at bs) ss
 all_stay at Within bs more stays [] w = refl
 all_stay at Within bs more stays (s ∷ ss) w = ap₂ (λ e es. e ∷ es) (stays s w.0) (all_stay at Within bs more stays ss w.1)
@@ -69,7 +69,7 @@ take_join zero m xs = ap (λ j. take j xs) (omega arith)
 take_join (suc n) m [] = take_all m [] (omega arith) ∙ sym (take_all (suc n + m) [] (omega arith))
 take_join (suc n) m (x ∷ xs) = let one : suc (n + m) ≡ suc n + m = omega arith in ap (λ ys. x ∷ ys) (take_join n m xs) ∙ ap (λ j. take j (x ∷ xs)) one
 
--- a key and its value stand one after the other
+-- a key and its value are one after the other
 pub one_range : (bs : List ℕ) (s : Span) → s.start ≤ s.key_end → s.key_end ≤ s.end → (entry_at bs s).0 ++ (entry_at bs s).1 ≡ slice_range bs s.start s.end
 one_range bs s h k =
     let n = s.key_end - s.start in let m = s.end - s.key_end in

@@ -21,7 +21,7 @@ no_message t h e = let differ : Some (spelling t) ≡ None = sym ((spelled_is t 
 pub head_is_spelled : (major n : ℕ) → n < 2 ^ 64 → spelled_head major n ≡ Some (head major n)
 head_is_spelled major n h = ap (λ b. cond b (Some (head major n)) None) (lt-ltb n (2 ^ 64) h)
 
--- ---- what is answered
+-- ---- what is returned
 
 -- a writer to memory that was empty holds the spelling
 abbrev in_memory : List ℕ → Written
@@ -35,7 +35,7 @@ spelling_answered (Some t) held v tree is w = by (spelled t) refl w
     by None e w = absurd w
     by (Some s) e w = let k = (spelled_is t s).0 e in record { well_formed = tree; spellable = k.0; is = is ∙ w.0 ∙ k.1 }
 
--- why no vector is answered
+-- why no vector is returned
 abbrev NotAnswered : Option Tree → EncodeError Infallible → Type 0
 NotAnswered o e = (e ≡ OutOfMemory) ⊎ HasNoSpelling o
 
@@ -66,7 +66,7 @@ front_sent None old new w = (w, tt)
 front_sent (Some t) old new w = (grown (spelled t) old new w, λ k. subst (λ s. WroteFront s old new) ((spelled_is t (spelling t)).1 (k, refl)) w)
 
 module _ (E : Type 0) (o : Option Tree) where
-  -- a message is answered where there is no spelling; then some bytes went out
+  -- a message is returned if there is no spelling; some bytes may have been written before
   message_front : (old new : Written) (m : Message) → Stops {E = E} (spelled_tree o) old new (Msg m) → GrewByFront o old.bytes new.bytes
   message_front old new m w = by o w
     where
@@ -88,7 +88,7 @@ module _ (E : Type 0) (o : Option Tree) where
       by (Err (Write e)) w = inl tt
       by (Err OutOfMemory) w = inl tt
 
-  -- A writer over a device that held the bytes before, and holds those after: its answer,
+  -- A writer over a device that held the bytes before, and holds those after: its result,
   module _ (r : Result (Unit {0}) (EncodeError E)) (old new : Written) (before after : Option (List ℕ)) (was : old.bytes ≡ before) (is : new.bytes ≡ after) where
     pub value_sent : OnOk r (IfSome o IsTree) → Writes (spelled_tree o) old new r → IfOk r (λ _. GrewBySpelling o before after)
     value_sent tree w = subst (λ b. IfOk r (λ _. GrewBySpelling o before b)) is (subst (λ b. IfOk r (λ _. GrewBySpelling o b new.bytes)) was (by r tree w))
@@ -101,7 +101,7 @@ module _ (E : Type 0) (o : Option Tree) where
         by (Ok u) tree w = whole (spelled_tree o) tree refl w
         by (Err e) tree w = tt
 
-    -- and what went out before a refusal.
+    -- and what was written before a refusal.
     pub front_before : Writes (spelled_tree o) old new r → IfErr r (λ _. GrewByFront o before after)
     front_before w = subst (λ b. IfErr r (λ _. GrewByFront o before b)) is (subst (λ b. IfErr r (λ _. GrewByFront o b new.bytes)) was (by r w))
       where

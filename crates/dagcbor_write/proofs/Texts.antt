@@ -20,7 +20,7 @@ map_joined : {A B : Type 0} (f : A → B) (xs : List A) (y : A) → map f (xs ++
 map_joined f [] y = refl
 map_joined f (x ∷ xs) y = ap (λ ys. f x ∷ ys) (map_joined f xs y)
 
--- the entries that were listed of a map, of which some are left
+-- the entries that were listed of a map, when some are left
 abbrev pub Listed-but : {V : Type 0} → List (String Global × V) → List (String Global × V) → List (TextEntry V) → Type 0
 Listed-but {V} all left row = (done : List (String Global × V)) × (all ≡ done ++ left)
     × ((tree : V → Option Tree) → text_pairs tree row ≡ map_pairs tree done)

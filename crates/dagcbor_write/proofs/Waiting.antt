@@ -75,7 +75,7 @@ none_each {A} tree (y ∷ ys) zero x h e n =
     ap (λ (b : Option (List ℕ)). b ++? spelled_each (map tree ys)) first
 none_each {A} tree (y ∷ ys) (suc i) x h e n = ap (λ (b : Option (List ℕ)). spelled_tree (tree y) ++? b) (none_each tree ys i x (omega (arith, h)) e n) ∙ append_None (spelled_tree (tree y))
 
--- a list with an item that has no text has none
+-- a list with an item that has no text has no text
 pub none_among : {A : Type 0} (tree : A → Option Tree) (xs : List A) (i : ℕ) (x : A) → i < length xs → x ≡ get_or xs i x → spelled_tree (tree x) ≡ None → spelled_tree (list_tree (map tree xs)) ≡ None
 none_among tree xs i x h e n = spelled_list (map tree xs) ∙ ap (λ (a : Option (List ℕ)). spelled_head 4 (length (map tree xs)) ++? a) (none_each tree xs i x h e n) ∙ append_None (spelled_head 4 (length (map tree xs)))
 

@@ -9,8 +9,8 @@ use Rattle.dagcbor_write.specs.declared.collect.bounded.BoundedCollect.{BoundedC
 use Rattle.dagcbor_write.specs.Answers.{OnMessage, NoMessage}
 use Rattle.dagcbor_write.specs.Lending.{bounded_lent, bounded_left, SameLoan}
 
--- A list of so many items was begun: a text went out that ends with its head. Want of memory is
--- answered only where the writer may take it.
+-- A list of `len` items was begun: a text that ends with its head was written. The call is out of
+-- memory only if the writer may take memory.
 pub record BeginsList {W E : Type 0} (written : W → Written) (takes_memory : Bool) (text : Option (List ℕ)) (len : ℕ) (ser : MutBor W) (r : Result (BoundedCollect W) (EncodeError E)) : Type 0 where
   pub same_reference : IfOk r (λ c. SameLoan ser (bounded_lent c))
   pub head : IfOk r (λ c. WroteAll text (written ser.now) (written (bounded_lent c).now))
@@ -18,7 +18,7 @@ pub record BeginsList {W E : Type 0} (written : W → Written) (takes_memory : B
   pub memory : WantsMemoryOnlyIf takes_memory r
   pub silent : IfErr r (OnMessage NoMessage)
 
--- The next item went out, or was refused. Either way one less is still to come.
+-- The next item was written, or refused. Either way one item fewer is still to come.
 pub record WritesItem {W E : Type 0} (written : W → Written) (may : Bool) (tree : Option Tree) (message : List ℕ → Type 0) (old new : BoundedCollect W) (r : Result (Unit {0}) (EncodeError E)) : Type 0 where
   pub same_reference : SameLoan (bounded_lent old) (bounded_lent new)
   pub left : bounded_left new + 1 ≡ bounded_left old

@@ -4,12 +4,12 @@ use Rattle.std.specs.Fmt.{◌++?◌}
 use Rattle.ipld_tree.specs.Tree.{Tree, IsTree}
 use Rattle.ipld_tree.specs.Spelled.{spelled_tree}
 
--- their spellings, one after the other
+-- the spellings of the trees, one after the other
 abbrev pub spelled_each : List (Option Tree) → Option (List ℕ)
 spelled_each [] = Some []
 spelled_each (o ∷ os) = spelled_tree o ++? spelled_each os
 
--- each is well-formed
+-- each tree is well-formed
 abbrev pub AreTrees : List (Option Tree) → Type 0
 AreTrees [] = ⊤
 AreTrees (o ∷ os) = IfSome o IsTree × AreTrees os

@@ -1,4 +1,4 @@
--- The law of the order in which a map's entries come.
+-- The law of the order of a map's entries.
 use Rattle.std.specs.Prelude.{◌≡◌, List, IsPermutation}
 use Rattle.ipld_tree.specs.Tree.{entries_tree}
 use Rattle.dagcbor_write.specs.Trees.{Pair}

@@ -1,4 +1,4 @@
--- Collectors: the serializers that they are lent, and what they hold.
+-- Collectors: the serializers that they borrow, and what they hold.
 use Rattle.std.specs.Prelude.{◌≡◌, ℕ, List, Option, Result, IfErr}
 use Rattle.std.specs.Borrow.{RestsIfErr, Fml, RattleType, MutBor}
 use Rattle.dagcbor_core.specs.declared.error.EncodeError.{EncodeError}
@@ -9,15 +9,15 @@ use Rattle.dagcbor_write.specs.declared.collect.collect_map.CollectMap.{CollectM
 use Rattle.dagcbor_write.specs.declared.collect.collect_seq.CollectSeq.{CollectSeq}
 use Rattle.dagcbor_write.specs.Maps.{MapState}
 
--- the serializer that a collector holds
+-- the serializer that a map's collector borrows
 abbrev pub map_lent : {W G : Type 0} → CollectMap W G → MutBor W
 map_lent c = c.ser
 
--- the serializer that a list's collector was lent
+-- the serializer that a list's collector borrows
 abbrev pub list_lent : {W I : Type 0} → CollectSeq W I → MutBor W
 list_lent c = c.ser
 
--- the serializer that a collector of announced length was lent
+-- the serializer that a collector of announced length borrows
 abbrev pub bounded_lent : {W : Type 0} → BoundedCollect W → MutBor W
 bounded_lent c = c.ser
 
@@ -33,18 +33,18 @@ list_state c = c.items
 abbrev pub bounded_left : {W : Type 0} → BoundedCollect W → ℕ
 bounded_left c = c.left
 
--- one is lent on as the other
+-- both borrow through the same reference
 abbrev pub SameLoan : {W : Type 0} → MutBor W → MutBor W → Type 0
 SameLoan old new = new.ghost_name ≡ old.ghost_name
 
--- nothing was written: the serializer stands as it was, and so does the number that was announced
+-- nothing was written: the serializer is as it was, and so is the number that was announced
 pub record WritesNothing {W : Type 0} (old new : CollectMap W MapState) : Type 0 where
   pub same_reference : SameLoan (map_lent old) (map_lent new)
   pub unchanged : (map_lent new).now ≡ (map_lent old).now
   pub announced : (map_state new).announced ≡ (map_state old).announced
 
--- A collector begins with the serializer, or the head was refused: then the serializer rests as
--- that left it.
+-- A collector begins with the serializer, or the head was refused, and the serializer is as that
+-- call left it.
 module _ (W : RattleType) (written : W.Denot → Written) {C E : Type 0}
     (lent : C → MutBor W.Denot) where
   abbrev pub BeginsOrStops : MutBor W.Denot → Option (List ℕ) → Result C (EncodeError E) → Fml

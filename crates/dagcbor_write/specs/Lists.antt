@@ -9,19 +9,19 @@ use Rattle.dagcbor_write.specs.declared.collect.collect_seq.ListState.{ListState
 use Rattle.dagcbor_write.specs.declared.collect.collect_seq.ListState.TheVariants.{Announced, Waits}
 use Rattle.dagcbor_write.specs.Gathering.{Grows, RefusedFor, Collects}
 
--- what goes out at the beginning of a list: its head, where the number of items is known
+-- what is written at the beginning of a list: its head, if the number of items is known
 abbrev pub announced_head : Option ℕ → Option (List ℕ)
 announced_head None = Some []
 announced_head (Some n) = spelled_head 4 n
 
--- no item was taken
+-- no item was taken yet
 abbrev pub IsFresh : Option ℕ → ListState → Type 0
 IsFresh (Some n) (Announced left) = left ≡ n
 IsFresh None (Waits b) = b ≡ record { bytes = []; count = 0 }
 IsFresh (Some n) (Waits b) = ⊥
 IsFresh None (Announced left) = ⊥
 
--- how many of the announced items are still to come
+-- how many of the announced items are still to come, or `None` if no number was announced
 abbrev pub elements_left : ListState → Option ℕ
 elements_left (Announced left) = Some left
 elements_left (Waits b) = None
@@ -36,8 +36,8 @@ abbrev pub IsComplete : ListState → Type 0
 IsComplete (Announced left) = left ≡ 0
 IsComplete (Waits b) = ⊤
 
--- an item went out, or joined those that wait, and nothing went out; those that wait stay after a
--- refusal
+-- an item was written, or it joined those that wait and nothing was written; a refusal leaves those
+-- that wait as they were
 abbrev pub TakesElement : {T E : Type 0} → Option Tree → ListState → Written → ListState → Written
     → Result T (EncodeError E) → Type 0
 TakesElement tree (Announced left) s (Announced rest) t r = Writes (spelled_tree tree) s t r
@@ -48,7 +48,7 @@ TakesElement tree (Waits b) s (Waits d) t r =
 TakesElement tree (Announced left) s (Waits d) t r = ⊥
 TakesElement tree (Waits b) s (Announced rest) t r = ⊥
 
--- what goes out at the end of a list: the items that waited, after their number
+-- what is written at the end of a list: the items that waited, after their number
 abbrev pub waiting_text : ListState → Option (List ℕ)
 waiting_text (Announced left) = Some []
 waiting_text (Waits b) = spelled_head 4 b.count ++? Some b.bytes

@@ -12,23 +12,23 @@ use Rattle.dagcbor_write.specs.Gathering.{RefusedFor, Refused, Collects}
 abbrev pub Texts : Type 0
 Texts = List ℕ × List ℕ
 
--- what a map was given before its end: the spellings of its entries, in the order given, that of a
--- key that waits for its value, and the number of entries, where the head of the map is out
+-- what a map was given before its end: the spellings of its entries, in the order given; that of a
+-- key that waits for its value; and the number of entries, if the map's head was written
 pub record MapState : Type 0 where
   pub entries : List Texts
   pub key : Option (List ℕ)
   pub announced : Option ℕ
 
--- a map that was begun with this number announced, or with none
+-- a map that was begun, with this number of entries announced, or with no number
 abbrev pub no_entry_yet : Option ℕ → MapState
 no_entry_yet announced = record { entries = []; key = None; announced = announced }
 
--- as many entries as were announced
+-- whether there are as many entries as were announced, if a number was announced
 abbrev pub has_announced : Option ℕ → ℕ → Bool
 has_announced None n = true
 has_announced (Some m) n = nat_eq n m
 
--- no key waits for its value, and there are as many entries as were announced
+-- whether no key waits for its value, and there are as many entries as were announced
 abbrev pub is_complete : MapState → Bool
 is_complete h = is_none h.key && has_announced h.announced (length h.entries)
 
@@ -39,16 +39,16 @@ abbrev pub begins_text : List ℕ → Bool
 begins_text [] = false
 begins_text (b ∷ bs) = nat_eq (b / 32) 3
 
--- the spelling of a key, none where it is no text
+-- the spelling of a key, or `None` if the key is not a text
 abbrev pub spelled_key : Option Tree → Option (List ℕ)
 spelled_key key = option_and_then (λ k. spelled (text k)) (option_and_then key_of key)
 
--- the causes of a key's message: it has no spelling, or is no text
+-- the message of a refused key: it has no spelling, or is not a text
 abbrev pub IsKeyMessage : Option Tree → List ℕ → Type 0
 IsKeyMessage key m = RefusedFor (codes "Map key cannot be serialized.") key m
     ⊎ ((m ≡ codes "Map keys must be strings") × (option_and_then key_of key ≡ None))
 
--- the cause of a value's message: it has no spelling
+-- the message of a refused value: it has no spelling
 abbrev pub IsValueMessage : Option Tree → List ℕ → Type 0
 IsValueMessage value m = RefusedFor (codes "Struct value cannot be serialized.") value m
 
@@ -61,21 +61,21 @@ abbrev pub HoldsKey : Option Tree → Option (List ℕ) → Type 0
 HoldsKey key None = ⊥
 HoldsKey key (Some k) = (spelled_key key ≡ Some k) × IfSome key IsTree
 
--- a key and a value joined the others
+-- a key and a value were appended to the entries
 abbrev pub Joins : Option (List ℕ) → Option (List ℕ) → List Texts → List Texts → Type 0
 Joins (Some key) (Some value) old new = new ≡ old ++ (key, value) ∷ []
 Joins (Some key) None old new = ⊥
 Joins None value old new = ⊥
 
--- the key and the spelling of its well-formed value joined the others
+-- the key and the spelling of its well-formed value were appended to the entries
 abbrev pub JoinsValue : Option (List ℕ) → Option Tree → List Texts → List Texts → Type 0
 JoinsValue key value old new = Joins key (spelled_tree value) old new × IfSome value IsTree
 
--- the spellings of a well-formed key and value joined the others
+-- the spellings of a well-formed key and value were appended to the entries
 abbrev pub JoinsEntry : Option Tree → Option Tree → List Texts → List Texts → Type 0
 JoinsEntry key value old new = JoinsValue (spelled_key key) value old new × IfSome key IsTree
 
--- a key and its value joined the others, or one of them was refused, and then the others stay
+-- a key and its value joined the entries, or one of them was refused and the entries did not change
 pub record TakesEntry {T E : Type 0} (key value : Option Tree) (Cause : List ℕ → Type 0) (old new : MapState) (r : Result T (EncodeError E)) : Type 0 where
   pub no_key : new.key ≡ None
   pub joins : Collects (λ u. JoinsEntry key value old.entries new.entries) Cause r
@@ -90,26 +90,26 @@ pub record IsSpellingOf (p : Pair) (e : Texts) : Type 0 where
   pub good_key : IfSome p.0 IsTree
   pub good_value : IfSome p.1 IsTree
 
--- the texts are the spellings of the pairs, in turn
+-- the texts are the spellings of the pairs, in order
 abbrev pub AreSpellingsOf : List Pair → List Texts → Type 0
 AreSpellingsOf = Pairwise IsSpellingOf
 
--- what follows the head of a map
+-- the bytes after the head of a map
 abbrev pub entries_text : Option Tree → Option (List ℕ)
 entries_text (Some (mapping es)) = spelled_entries es
 entries_text o = None
 
--- what is still to be written of the map of the pairs: all of it, or where its head is out what
--- follows that
+-- what is still to be written of the map of the pairs: all of it, or the bytes after its head if
+-- the head was written
 abbrev pub map_rest : Bool → List Pair → Option (List ℕ)
 map_rest false ps = spelled_tree (entries_tree ps)
 map_rest true ps = entries_text (entries_tree ps)
 
--- the spellings of well-formed pairs, in turn, joined the others
+-- the spellings of well-formed pairs were appended to the entries, in order
 abbrev pub JoinsPairs : List Pair → List Texts → List Texts → Type 0
 JoinsPairs ps old new = (more : List Texts) × AreSpellingsOf ps more × (new ≡ old ++ more)
 
--- the pairs before one joined the others, and the value of that one was refused
+-- the pairs before one were appended to the entries, and the value of that one was refused
 pub record StopsAtPair {E : Type 0} (ps : List Pair) (old new : List Texts) (e : EncodeError E) : Type 0 where
   pub taken : List Pair
   pub refused : Pair
@@ -122,43 +122,43 @@ pub record StopsAtPair {E : Type 0} (ps : List Pair) (old new : List Texts) (e :
 abbrev pub LacksValue : List Pair → Type 0
 LacksValue ps = Any (λ p. spelled_tree p.1 ≡ None) ps
 
--- the cause of a value's message, where it may be that of any pair
+-- the message of a refused value, which may be that of any pair
 abbrev pub RefusesAnyValue : List Pair → List ℕ → Type 0
 RefusesAnyValue ps m = (m ≡ codes "Struct value cannot be serialized.") × LacksValue ps
 
--- what an iterator has left shows as these pairs: a call gives the first of them
+-- the items that an iterator has left are these pairs: a call gives the first of them
 abbrev pub ShowsPairs : {S A : Type 0} → (S → Option A → S → Type 0) → (A → Pair)
     → (S → List Pair) → Type 0
 ShowsPairs {S} {A} gives pair rest = (s : S) (r : Option A) (t : S) → gives s r t
     → YieldsFirstBy pair rest s r t
 
--- a key of the pairs is there twice
+-- a key of the pairs occurs twice
 abbrev pub RepeatsKey : List Pair → Type 0
 RepeatsKey ps = IsSomeAnd (all_some (map pair_of ps)) (λ named. IsTrue (repeats_key named))
 
--- the cause of a map's message: a key is there twice
+-- the message of a refused map: a key occurs twice
 abbrev pub RefusesKeys : List Pair → List ℕ → Type 0
 RefusesKeys ps m = (m ≡ codes "Map keys must be unique") × RepeatsKey ps
 
--- the causes of a struct's message: a value's, or where all have spellings that of the keys
+-- the messages of a refused struct: a value's, or that of the keys if all values have spellings
 abbrev pub RefusesPairs : List Pair → List ℕ → Type 0
 RefusesPairs ps m = RefusesAnyValue ps m ⊎ (RefusesKeys ps m × ¬ LacksValue ps)
 
--- ---- a map that is at hand
+-- ---- a map in memory
 
--- the pairs with null for each value: what is said of these is said of their keys alone
+-- the pairs with null for each value, to speak of their keys alone
 abbrev pub keys_alone : List Pair → List Pair
 keys_alone = map (λ p. (p.0, Some null))
 
--- the cause of a message of one of the keys
+-- the message of a refused key, which may be that of any pair
 abbrev pub RefusesAnyKey : List Pair → List ℕ → Type 0
 RefusesAnyKey ps m = Any (λ p. IsKeyMessage p.0 m) ps
 
--- the causes of a map's message: one of its keys, or a key that is there twice; or a value
+-- the messages of a refused map: that of one of its keys, of a repeated key, or of a value
 abbrev pub RefusesEntries : List Pair → List ℕ → Type 0
 RefusesEntries ps m = (RefusesAnyKey ps m ⊎ RefusesKeys (keys_alone ps) m) ⊎ RefusesAnyValue ps m
 
--- the causes of a map's message, where nothing went out before one of its keys
+-- the same messages; with one of a key, nothing was written
 abbrev pub RefusesMap : {A : Type 0} → A → A → List Pair → List ℕ → Type 0
 RefusesMap old new ps m = ((RefusesAnyKey ps m ⊎ RefusesKeys (keys_alone ps) m) × (new ≡ old))
     ⊎ RefusesAnyValue ps m

@@ -3,8 +3,8 @@ use Rattle.std.specs.Prelude.{◌≡◌, ◌⊎◌, ℕ, Bool, true, false, List
 use Rattle.ipld_tree.specs.Tree.{Tree, null, boolean, integer, text, bytes, list, mapping, link, Items, no_items, item}
 use Rattle.ipld_tree.specs.Spelled.{spelled}
 
--- an integer has its own, a list that of an item without a spelling, and a map that of a value;
--- other trees have a spelling
+-- an integer has a message of its own, a list that of an item without a spelling, and a map that of
+-- a value without one; other trees have a spelling
 abbrev mutual
   pub tree_message : Tree → List ℕ → Type 0
   tree_message (integer n) m = m ≡ codes "Integer must be within [-u64::MAX-1, u64::MAX] range"

@@ -17,7 +17,7 @@ option_tree tree (Some x) = tree x
 abbrev pub field : List ℕ → Option Tree → Pair
 field name value = (Some (text name), value)
 
--- a field that is left out where it has no value, before others
+-- a field before others, left out if it has no value
 abbrev pub optional : {A : Type 0} → List ℕ → (A → Option Tree) → Option A → List Pair → List Pair
 optional name tree None others = others
 optional name tree (Some x) others = field name (tree x) ∷ others
@@ -26,6 +26,6 @@ optional name tree (Some x) others = field name (tree x) ∷ others
 abbrev pub variant_tree : List ℕ → Option Tree → Option Tree
 variant_tree name part = option_map (λ t. mapping (entry name t no_entries)) part
 
--- what stands before what a variant holds
+-- the bytes before what a variant holds
 abbrev pub variant_head : List ℕ → Option (List ℕ)
 variant_head name = spelled_head 5 1 ++? spelled (text name)

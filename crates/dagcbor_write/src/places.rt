@@ -1,4 +1,4 @@
-//! The places of a struct's fields, put in the order of their names.
+//! The places of a struct's fields, sorted by the fields' names.
 
 ghost use Rattle.std.specs.Prelude.{◌≡◌, [], Some, IsTrue};
 ghost use Rattle.dagcbor_write.specs.Rows.{names_rise, IsKeyOrder};
@@ -14,10 +14,10 @@ pub struct Place {
     pub at: usize,
 }
 
-/// The places of a row that is sorted. A row of more fields is written as maps are.
+/// The places of a row that is to be sorted. A row of more fields is written as maps are.
 pub type Places = ArrayVec<Place, 16>;
 
-/// Whether each name comes after the one before it, in key order, and the first is not empty.
+/// Returns whether each name comes after the previous one in key order, and the first is not empty.
 fn names_rise(places: &[Place]) -> bool
     ensures { result ≡ names_rise [] places.now }
 {
@@ -32,7 +32,8 @@ fn names_rise(places: &[Place]) -> bool
     true
 }
 
-/// Lists the places of the fields in key order. False if there are too many, or a name is repeated.
+/// Lists the places of the fields in key order. Returns false if there are too many, or a name is
+/// repeated.
 pub(crate) fn list_in_order<F: FieldRow>(fields: &F, places: &mut Places) -> bool
     requires { places.old.items ≡ [] }
     ensures { IsTrue result → IsKeyOrder (F.pairs fields.now) (Some places.new.items) }

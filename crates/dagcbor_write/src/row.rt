@@ -20,31 +20,33 @@ use dagcbor_heads::{Write, WriteResult};
 use ipld_tree::comes_before;
 use std::alloc::Global;
 
-/// As many fields are counted at most.
+/// The most fields counted.
 const MOST_FIELDS: usize = 65_535;
 
 /// A field of a struct: its name and its value.
 #[derive(Drop)]
 pub struct Field<'a, T>(pub &'static str, pub &'a T);
 
-/// A field that is left out of the map if its value is `None`. If it is `Some`, its part is there.
+/// A field that is left out of the map if its value is `None`. If it is `Some`, the map has its
+/// part.
 #[derive(Drop)]
 pub struct Optional<'a, T>(pub &'static str, pub &'a Option<T>);
 
-/// The fields of a struct, one after another: a field, no field, or a row and another after it, as
-/// `(Field("x", &self.x), (Optional("y", &self.y), ()))`. Make a row of many fields of halves, and
-/// those of halves: the check of deeply nested pairs takes long.
+/// The fields of a struct in order: a field, no field, or a row and another after it, such as
+/// `(Field("x", &self.x), (Optional("y", &self.y), ()))`. Build a row of many fields from halves,
+/// and those from halves, because deeply nested pairs take long to check.
 pub trait FieldRow: Drop {
     /// The names and the trees of the fields that are in the map.
     ghost pairs: { Self → List Pair };
 
-    /// The names and the trees before others.
+    /// The names and the trees of the fields, with others after them.
     ghost before: { Self → List Pair → List Pair };
 
     ghost joins: { (row : Self) (others : List Pair) → before row others ≡ pairs row ++ others };
 
-    /// Hands the fields over, one after another. Refused with
-    /// `Msg("Struct value cannot be serialized.")` if one has no spelling; those before it stay.
+    /// Hands the fields to the map in order. Refused with
+    /// `Msg("Struct value cannot be serialized.")` if one has no spelling; the fields before it
+    /// stay.
     fn push_fields<W: Write>(&self, map: &mut CollectMap<'_, W>) -> WriteResult<(), W>
         requires { (map_state map.old).key ≡ None }
         ensures nothing_written { WritesNothing map.old map.new }
@@ -53,14 +55,14 @@ pub trait FieldRow: Drop {
             (λ _. JoinsPairs (pairs self.now) (map_state map.old).entries (map_state map.new).entries)
             (StopsAtPair (pairs self.now) (map_state map.old).entries (map_state map.new).entries) };
 
-    /// The last name and how many there are up to it, if each name comes after the one before it,
-    /// in key order, and the first comes after this one. None if one does not, or if there are very
-    /// many.
+    /// Returns the last name, and how many names there are up to it, if each name comes after the
+    /// previous one in key order, and the first after `last`. `None` if one does not, or if there
+    /// are too many.
     fn count_rising(&self, last: Place) -> Option<Place>
         ensures { IfSome result (λ end. (end.at ≡ last.at + length (pairs self.now))
             × KeysRiseTo last.name.now (pairs self.now) end.name.now) };
 
-    /// Writes the names and the values, one after another.
+    /// Writes the names and the values in order.
     fn write_fields<W: Write>(&self, alloc: Global, ser: &mut Serializer<W>) -> WriteResult<(), W>
         ensures written { Writes (spelled_pairs (pairs self.now))
             (W.written ser.old) (W.written ser.new) result }
@@ -68,19 +70,20 @@ pub trait FieldRow: Drop {
         ensures message { IfErr result (OnMessage (λ _. LacksValue (pairs self.now))) }
         ensures empty { pairs self.now ≡ [] → IsOk result };
 
-    /// Appends the names to others, each with its place. False if there is no room for all.
+    /// Appends the names to others, each with its place. Returns false if there is no room for all.
     fn list_places(&self, places: &mut Places) -> bool
         ensures { IsTrue result
             → ListsPlaces (pairs self.now) places.old.items places.new.items };
 
-    /// This place, counted from the end of the fields. None if it is one of theirs.
+    /// Returns this place, counted from the end of the fields, or `None` if a field is at this
+    /// place.
     fn behind(&self, place: usize) -> Option<usize>
         ensures { MatchOption result (place < length (pairs self.now))
             (λ more. place ≡ more + length (pairs self.now)) };
 
-    /// Writes the name and the value of the field in this place, and refuses if there is none. It
-    /// is counted off, so n fields take at most n² / 2 tests, where n is at most 16. When inlined,
-    /// the place is looked up at once.
+    /// Writes the name and the value of the field at this place, and refuses if there is no such
+    /// field. The fields before it are counted off, so n fields, at most 16, take at most n² / 2
+    /// tests. When inlined, the place is looked up at once.
     fn write_field<W: Write>(
         &self,
         place: usize,

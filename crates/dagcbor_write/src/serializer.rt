@@ -26,7 +26,7 @@ const INTEGER_RANGE: &str = "Integer must be within [-u64::MAX-1, u64::MAX] rang
 /// The message for an unsigned integer without a spelling.
 const UNSIGNED_RANGE: &str = "Unsigned integer must be within [0, u64::MAX] range";
 
-/// Writes values to a writer. Contracts see the writer.
+/// A serializer, which writes values to a writer. Contracts see the writer.
 #[derive(Drop)]
 pub struct Serializer<W> {
     writer: W,
@@ -39,14 +39,14 @@ impl<W> Model for Serializer<W> {
 }
 
 impl<W> Serializer<W> {
-    /// A serializer that appends to what the writer holds.
+    /// Returns a serializer that appends to what the writer holds.
     pub fn new(writer: W) -> Serializer<W>
         ensures { result ≡ writer }
     {
         Serializer { writer }
     }
 
-    /// The writer, with what was written to it.
+    /// Returns the writer, with what was written to it.
     pub fn into_inner(self) -> W
         ensures { result ≡ self }
     {
@@ -54,14 +54,14 @@ impl<W> Serializer<W> {
         writer
     }
 
-    /// The writer, with what was written to it so far.
+    /// Returns the writer, with what was written to it so far.
     pub(crate) fn writer(&self) -> &W
         ensures { result.now ≡ self.now }
     {
         &self.writer
     }
 
-    /// DAG-CBOR is a binary format.
+    /// Returns false, because DAG-CBOR is a binary format.
     pub fn is_human_readable(&self) -> bool
         ensures { result ≡ false }
     {
@@ -70,7 +70,7 @@ impl<W> Serializer<W> {
 }
 
 impl<W: Write> Serializer<W> {
-    /// f4 or f5.
+    /// Appends f4 for false, and f5 for true.
     #[tactic(auto, unfolding(ipld_tree::specs::Spelled::spelled))]
     pub fn serialize_bool(&mut self, v: bool) -> WriteResult<(), W>
         ensures written { Writes (spelled (boolean v))
@@ -81,7 +81,7 @@ impl<W: Write> Serializer<W> {
         self.writer.push(&[if v { 0xf5 } else { 0xf4 }])
     }
 
-    /// As `serialize_i16`.
+    /// Appends the integer as `serialize_i64` does.
     pub fn serialize_i8(&mut self, v: i8) -> WriteResult<(), W>
         ensures written { Writes (spelled (integer v))
             (W.written self.old) (W.written self.new) result }
@@ -90,7 +90,7 @@ impl<W: Write> Serializer<W> {
         self.serialize_i16(v as i16)
     }
 
-    /// As `serialize_i32`.
+    /// Appends the integer as `serialize_i64` does.
     pub fn serialize_i16(&mut self, v: i16) -> WriteResult<(), W>
         ensures written { Writes (spelled (integer v))
             (W.written self.old) (W.written self.new) result }
@@ -99,7 +99,7 @@ impl<W: Write> Serializer<W> {
         self.serialize_i32(v as i32)
     }
 
-    /// As `serialize_i64`.
+    /// Appends the integer as `serialize_i64` does.
     pub fn serialize_i32(&mut self, v: i32) -> WriteResult<(), W>
         ensures written { Writes (spelled (integer v))
             (W.written self.old) (W.written self.new) result }
@@ -108,7 +108,7 @@ impl<W: Write> Serializer<W> {
         self.serialize_i64(v as i64)
     }
 
-    /// A head of major type 0 or 1.
+    /// Appends a head of major type 0, or of 1 if the integer is negative.
     #[tactic(auto, unfolding(ipld_tree::specs::Spelled::spelled))]
     pub fn serialize_i64(&mut self, v: i64) -> WriteResult<(), W>
         ensures written { Writes (spelled (integer v))
@@ -119,8 +119,8 @@ impl<W: Write> Serializer<W> {
         push_head(&mut self.writer, major, argument as u64)
     }
 
-    /// Appends a head of major type 0 or 1. A number outside -2^64 to 2^64 - 1 is refused with
-    /// `Msg("Integer must be within [-u64::MAX-1, u64::MAX] range")`.
+    /// Appends a head of major type 0, or of 1 if the integer is negative. A number outside -2^64
+    /// to 2^64 - 1 is refused with `Msg("Integer must be within [-u64::MAX-1, u64::MAX] range")`.
     #[tactic(auto, unfolding(ipld_tree::specs::Spelled::spelled))]
     pub fn serialize_i128(&mut self, v: i128) -> WriteResult<(), W>
         ensures written { Writes (spelled (integer v))
@@ -137,7 +137,7 @@ impl<W: Write> Serializer<W> {
         }
     }
 
-    /// As `serialize_u16`.
+    /// Appends the integer as `serialize_u64` does.
     pub fn serialize_u8(&mut self, v: u8) -> WriteResult<(), W>
         ensures written { Writes (spelled (integer (pos v)))
             (W.written self.old) (W.written self.new) result }
@@ -146,7 +146,7 @@ impl<W: Write> Serializer<W> {
         self.serialize_u16(v as u16)
     }
 
-    /// As `serialize_u32`.
+    /// Appends the integer as `serialize_u64` does.
     pub fn serialize_u16(&mut self, v: u16) -> WriteResult<(), W>
         ensures written { Writes (spelled (integer (pos v)))
             (W.written self.old) (W.written self.new) result }
@@ -155,7 +155,7 @@ impl<W: Write> Serializer<W> {
         self.serialize_u32(v as u32)
     }
 
-    /// As `serialize_u64`.
+    /// Appends the integer as `serialize_u64` does.
     pub fn serialize_u32(&mut self, v: u32) -> WriteResult<(), W>
         ensures written { Writes (spelled (integer (pos v)))
             (W.written self.old) (W.written self.new) result }
@@ -164,7 +164,7 @@ impl<W: Write> Serializer<W> {
         self.serialize_u64(v as u64)
     }
 
-    /// A head of major type 0.
+    /// Appends a head of major type 0.
     #[tactic(auto, unfolding(ipld_tree::specs::Spelled::spelled))]
     pub fn serialize_u64(&mut self, v: u64) -> WriteResult<(), W>
         ensures written { Writes (spelled (integer (pos v)))
@@ -191,7 +191,7 @@ impl<W: Write> Serializer<W> {
         }
     }
 
-    /// A text of one character.
+    /// Appends a text of one character.
     pub fn serialize_char(&mut self, v: char) -> WriteResult<(), W>
         ensures written { Writes (spelled (text (encode_utf8 v)))
             (W.written self.old) (W.written self.new) result }
@@ -202,7 +202,7 @@ impl<W: Write> Serializer<W> {
         self.serialize_str(v.encode_utf8(&mut room))
     }
 
-    /// A head of major type 3 and the bytes of the text.
+    /// Appends a head of major type 3, and the bytes of the text.
     #[tactic(auto, unfolding(ipld_tree::specs::Spelled::spelled))]
     pub fn serialize_str(&mut self, v: &str) -> WriteResult<(), W>
         ensures written { Writes (spelled (text v.now))
@@ -216,7 +216,7 @@ impl<W: Write> Serializer<W> {
         push_counted(&mut self.writer, 3, v.as_bytes())
     }
 
-    /// A head of major type 2 and the bytes.
+    /// Appends a head of major type 2, and the bytes.
     #[tactic(auto, unfolding(ipld_tree::specs::Spelled::spelled))]
     pub fn serialize_bytes(&mut self, v: &[u8]) -> WriteResult<(), W>
         ensures written { Writes (spelled (bytes v.now))
@@ -230,7 +230,7 @@ impl<W: Write> Serializer<W> {
         push_counted(&mut self.writer, 2, v)
     }
 
-    /// f6.
+    /// Appends null, the byte f6.
     #[tactic(auto, unfolding(ipld_tree::specs::Spelled::spelled))]
     pub fn serialize_none(&mut self) -> WriteResult<(), W>
         ensures written { Writes (spelled null) (W.written self.old) (W.written self.new) result }
@@ -240,7 +240,7 @@ impl<W: Write> Serializer<W> {
         self.writer.push(&[0xf6])
     }
 
-    /// f6.
+    /// Appends null, the byte f6.
     pub fn serialize_unit(&mut self) -> WriteResult<(), W>
         ensures written { Writes (spelled null) (W.written self.old) (W.written self.new) result }
         ensures memory { WantsMemoryOnlyIf W.takes_memory result }
@@ -249,7 +249,7 @@ impl<W: Write> Serializer<W> {
         self.serialize_none()
     }
 
-    /// f6. The name is not looked at.
+    /// Appends null, the byte f6. The name is ignored.
     pub fn serialize_unit_struct(&mut self, _name: &'static str) -> WriteResult<(), W>
         ensures written { Writes (spelled null) (W.written self.old) (W.written self.new) result }
         ensures memory { WantsMemoryOnlyIf W.takes_memory result }
@@ -257,8 +257,8 @@ impl<W: Write> Serializer<W> {
         self.serialize_unit()
     }
 
-    /// d8 2a, a head of major type 2, a zero byte and the binary form. Each CID has a spelling, so
-    /// `Msg` is never answered.
+    /// Appends d8 2a, a head of major type 2, a zero byte and the binary form. Each CID has a
+    /// spelling, so `Msg` is never returned.
     pub fn serialize_cid(&mut self, cid: &Cid) -> WriteResult<(), W>
         ensures written { Writes (spelled (link (cid_bytes cid.now)))
             (W.written self.old) (W.written self.new) result }
@@ -275,7 +275,7 @@ impl<W: Write> Serializer<W> {
         push_link(&mut self.writer, &bytes)
     }
 
-    /// A head of a list or a map.
+    /// Appends the head of a list or a map.
     pub(crate) fn push_head(&mut self, major: u8, count: usize) -> WriteResult<(), W>
         requires { major ≤ 7 }
         ensures written { Writes (spelled_head major count)
@@ -286,7 +286,7 @@ impl<W: Write> Serializer<W> {
         push_head(&mut self.writer, major, count as u64)
     }
 
-    /// Bytes that are spelled already.
+    /// Appends bytes that are already spelled.
     pub(crate) fn push(&mut self, bytes: &[u8]) -> WriteResult<(), W>
         ensures written { Writes (Some bytes.now) (W.written self.old) (W.written self.new) result }
         ensures memory { WantsMemoryOnlyIf W.takes_memory result }
@@ -298,7 +298,7 @@ impl<W: Write> Serializer<W> {
         self.writer.push(bytes)
     }
 
-    /// The part itself.
+    /// Appends the spelling of the value alone.
     pub fn serialize_some<T: Serialize>(&mut self, alloc: Global, value: &T) -> WriteResult<(), W>
         ensures written { Writes (spelled_tree (T.tree value.now))
             (W.written self.old) (W.written self.new) result }
@@ -311,7 +311,7 @@ impl<W: Write> Serializer<W> {
         value.serialize(alloc, self)
     }
 
-    /// The part itself.
+    /// Appends the spelling of the value alone.
     pub fn serialize_newtype_struct<T: Serialize>(
         &mut self,
         alloc: Global,
@@ -329,7 +329,7 @@ impl<W: Write> Serializer<W> {
         self.serialize_some(alloc, value)
     }
 
-    /// The variant's name, as a text.
+    /// Appends the variant's name, as a text.
     pub fn serialize_unit_variant(
         &mut self,
         _name: &'static str,
@@ -344,7 +344,7 @@ impl<W: Write> Serializer<W> {
         self.serialize_str(variant)
     }
 
-    /// A map of one entry, from the variant's name to the part.
+    /// Appends a map of one entry, from the variant's name to the value.
     pub fn serialize_newtype_variant<T: Serialize>(
         &mut self,
         alloc: Global,
@@ -364,7 +364,7 @@ impl<W: Write> Serializer<W> {
         Serialize::serialize(value, alloc, self)
     }
 
-    /// The head of a map of one entry, and its key.
+    /// Appends the head of a map of one entry, and its key.
     pub(crate) fn push_variant(&mut self, name: &str) -> WriteResult<(), W>
         ensures written { Writes (variant_head name.now)
             (W.written self.old) (W.written self.new) result }
@@ -376,7 +376,7 @@ impl<W: Write> Serializer<W> {
         self.serialize_str(name)
     }
 
-    /// The head of a map of one entry, its key, and the head of what the variant holds.
+    /// Appends the head of a map of one entry, its key, and the head of what the variant holds.
     pub(crate) fn push_variant_of(
         &mut self,
         variant: &'static str,
@@ -395,8 +395,7 @@ impl<W: Write> Serializer<W> {
     }
 }
 
-/// Leaves, appended if the writer has room for them. Else nothing is appended, and the answer is
-/// false.
+/// Each appends a leaf, if the writer has room for it. Else it appends nothing, and returns false.
 impl<W: Write> Serializer<W> {
     #[tactic(auto, unfolding(ipld_tree::specs::Spelled::spelled))]
     pub(crate) fn null_at_once(&mut self) -> bool
@@ -454,7 +453,7 @@ impl<W: Write> Serializer<W> {
 }
 
 /// Appends a head of the number of bytes, and the bytes, if they are few and the writer has room
-/// for all. Else appends nothing, and answers false.
+/// for all. Else appends nothing, and returns false.
 fn counted_at_once<W: Write>(writer: &mut W, major: u8, payload: &[u8]) -> bool
     requires { major ≤ 7 }
     ensures written { WritesAtOnce (spelled_bytes major payload.now)
@@ -477,7 +476,7 @@ fn push_counted<W: Write>(writer: &mut W, major: u8, payload: &[u8]) -> WriteRes
 }
 
 /// Appends the link to a CID of this binary form, if that has 23 bytes or more and the writer has
-/// room for it. Else appends nothing, and answers false.
+/// room for it. Else appends nothing, and returns false.
 fn link_at_once<W: Write>(writer: &mut W, cid: &ArrayVec<u8, 86>) -> bool
     ensures written { WritesAtOnce (spelled (link cid.now.items))
         (W.written writer.old) (W.written writer.new) result }

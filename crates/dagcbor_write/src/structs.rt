@@ -1,4 +1,4 @@
-//! Structs that are written by a row of their fields.
+//! Structs that are written from a row of their fields.
 
 ghost use Rattle.std.specs.Prelude.{◌≡◌, [], length, Some, OnOk, IfErr, IfSome};
 ghost use Rattle.dagcbor_write.specs.Answers.{OnMessage, LacksBefore};
@@ -21,7 +21,7 @@ use dagcbor_core::EncodeError;
 use dagcbor_heads::{BufWriter, Write, WriteResult};
 use std::alloc::Global;
 
-/// Writes the fields in these places, one after another.
+/// Writes the fields at these places, one after the other.
 #[inline(always)]
 fn write_places<F: FieldRow, W: Write>(
     alloc: Global,
@@ -41,7 +41,7 @@ fn write_places<F: FieldRow, W: Write>(
     Ok(())
 }
 
-/// Writes the names and the values of the fields, in their own order or in the order of these
+/// Returns the spelled names and values of the fields, in their own order or in that of these
 /// places. Refused with `Msg("Struct value cannot be serialized.")` if one has no spelling.
 #[inline(always)]
 fn gather_fields<F: FieldRow, E>(
@@ -71,7 +71,7 @@ fn gather_fields<F: FieldRow, E>(
     }
 }
 
-/// Writes a struct of these fields. Their names rise in their own order, or in that of these
+/// Writes a struct of these fields, whose names rise in their own order, or in that of these
 /// places.
 #[inline(always)]
 #[tactic(auto, using(crate::proofs::Fields::exit_row))]
@@ -120,9 +120,9 @@ fn write_unordered<F: FieldRow, W: Write>(
     map.end()
 }
 
-/// Writes a struct of these fields, as a map, in key order. Nothing goes out before each field has
-/// been spelled in memory. If the row is in key order already, nothing is sorted. Else at most 16
-/// fields are sorted by their places, which takes no memory. Refused with
+/// Writes a struct of these fields, as a map, in key order. Nothing is written before each field
+/// has been spelled in memory. If the row is in key order already, nothing is sorted. Else at most
+/// 16 fields are sorted by their places, which takes no memory. Refused with
 /// `Msg("Struct value cannot be serialized.")` if a value has no spelling, else with
 /// `Msg("Map keys must be unique")` if a name is repeated.
 ///
@@ -150,7 +150,7 @@ pub fn write_struct<F: FieldRow, W: Write>(
 }
 
 /// Writes a variant with these fields: a map of one entry, from the variant's name to the map of
-/// the fields. Refused with the messages of `write_struct`. Then the variant's name is out.
+/// the fields. Refused with the messages of `write_struct`, after the variant's name was written.
 ///
 /// ```rust
 /// let fields = (Field("x", x), (Field("y", y), ()));

@@ -1,4 +1,4 @@
-//! Writing one value.
+//! Writes one value.
 
 ghost use Rattle.std.specs.Prelude.{◌≡◌, ◌⊎◌, IfOk, IfErr, false, ◌||◌};
 ghost use Rattle.dagcbor_heads.specs.Written.{WantsMemoryOnlyIf};
@@ -15,8 +15,8 @@ use std::alloc::Global;
 use std::convert::Infallible;
 use std::io;
 
-/// The one spelling of the value's tree. Refused with `Msg` only if it has none, as an integer
-/// outside -2^64 to 2^64 - 1.
+/// Returns the one spelling of the value's tree. Refused with `Msg` only if there is no spelling,
+/// such as of an integer outside -2^64 to 2^64 - 1.
 ///
 /// ```rust
 /// let block = to_vec(alloc, &(-300i16, "a"))?;
@@ -36,7 +36,7 @@ pub fn to_vec<T: Serialize>(alloc: Global, value: &T) -> Result<Vec<u8>, EncodeE
 }
 
 /// Writes the one spelling of the value's tree to the device. Refused with `Msg` as `to_vec`. After
-/// a refusal the device holds what it held before, and then some bytes: a beginning of the
+/// a refusal the device holds what it held before, followed by some bytes: a beginning of the
 /// spelling, if the value has one.
 ///
 /// ```rust
@@ -62,7 +62,7 @@ pub fn to_writer<W: io::Write, T: Serialize>(
     let mut ser = Serializer::new(IoRefWriter::new(writer));
     let result = value.serialize(alloc, &mut ser);
     let device = ser.into_inner().into_inner();
-    // No effect at run time. The proof reads what `writer` holds from this use of `device`.
+    // No effect at run time. From this use of `device` the proof knows what `writer` holds.
     let _ = &*device;
     result
 }

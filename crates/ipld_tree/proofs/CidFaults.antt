@@ -1,4 +1,4 @@
--- Of a CID no fault stands, and of other bytes at most one.
+-- A CID has no fault, and other bytes have at most one.
 use Rattle.std.proofs.Common.{◌≡◌, ◌⊎◌, inl, inr, ℕ, ◌^◌, ◌<◌, ◌≤◌, List, [], ◌∷◌, ◌++◌, length, refl, sym, ap, ◌∙◌, subst, arith, append_assoc, append-nil, length-append, flat_map}
 use Rattle.std.proofs.lemmas.Bool.{cases_order}
 use Rattle.std.specs.List.{AllByRecursion}
@@ -11,7 +11,7 @@ use Rattle.ipld_tree.proofs.Cids.{varint_unique, form_0, form_1}
 abbrev Fit : List ℕ → Type 0
 Fit = AllByRecursion (λ n. n < 2 ^ 64)
 
--- numbers that stand before others are the first of them
+-- numbers that come before others are the first of them
 record Begins (fs gs r s : List ℕ) : Type 0 where
   more : List ℕ
   are : gs ≡ fs ++ more
@@ -29,7 +29,7 @@ begins (m ∷ fs) (n ∷ gs) r s f g h e =
 varints_begin : (b fs gs r s : List ℕ) → HasVarints b fs r → HasVarints b gs s → length fs ≤ length gs → Begins fs gs r s
 varints_begin b fs gs r s h g few = let whole = sym h.is ∙ g.is in begins fs gs r s h.fit g.fit few (cc whole)
 
--- where fewer numbers stand, a varint follows
+-- after the numbers of the shorter list, a varint follows
 next_varint : (b fs gs r s : List ℕ) → HasVarints b fs r → HasVarints b gs s → length fs < length gs → (n : ℕ) × (z : List ℕ) × (n < 2 ^ 64) × (r ≡ varint n ++ z)
 next_varint b fs gs r s h g few = by (varints_begin b fs gs r s h g (omega arith))
   where
@@ -40,7 +40,7 @@ next_varint b fs gs r s h g few = by (varints_begin b fs gs r s h g (omega arith
         first [] are fit is = absurd (omega (arith, ap length are, length-append fs []))
         first (n ∷ more) are fit is = (n, flat_map varint more ++ s, fit.0, is ∙ append_assoc (varint n) (flat_map varint more) s)
 
--- numbers as many are the same
+-- of two lists of three numbers, the last numbers and the rests are the same
 same_varints : (b : List ℕ) (j k n l m o : ℕ) (r s : List ℕ) → HasVarints b (j ∷ k ∷ n ∷ []) r → HasVarints b (l ∷ m ∷ o ∷ []) s → (n ≡ o) × (r ≡ s)
 same_varints b j k n l m o r s h g = by (varints_begin b (j ∷ k ∷ n ∷ []) (l ∷ m ∷ o ∷ []) r s h g (omega arith))
   where
@@ -93,7 +93,7 @@ two_forms : (b : List ℕ) → IsCid b → IsForm0 b ⊎ AtDigest b IsWhole
 two_forms b (c, inl v, e) = inl (c.digest, v.3, e ∙ form_0 c v.0)
 two_forms b (c, inr v, e) = inr (c.codec, c.hash_code, length c.digest, c.digest, cid_varints b c v e, (v.3, refl))
 
--- ---- what can't stand in the same bytes
+-- ---- faults that the same bytes cannot have
 
 not_form_0 : (b numbers rest : List ℕ) → HasVarints b numbers rest → IsForm0 b → ⊥
 not_form_0 b numbers rest h v = let clash = sym h.is ∙ v.2 in absurd (cc clash)
@@ -169,7 +169,7 @@ varint_fault InvalidVarint b numbers rest h few f = (numbers, rest, h, few, f)
 varint_fault Truncated b numbers rest h few f = inr (inl (numbers, rest, h, few, f))
 varint_fault _ b numbers rest h few f = absurd f
 
--- no fault stands in a CID
+-- a CID has no fault
 pub fault_no_cid : (e : CidError) (b : List ℕ) → IsFault e b → IsCid b → ⊥
 fault_no_cid e b f c = by e f (two_forms b c)
   where
@@ -187,7 +187,7 @@ fault_no_cid e b f c = by e f (two_forms b c)
     by TrailingBytes f (inl v) = not_form_0 b _ f.3 f.4 v
     by TrailingBytes f (inr w) = one_digest b HasMore IsWhole (λ n r p q. omega (arith, p, q)) f w
 
--- at most one fault stands in bytes
+-- bytes have at most one fault
 pub one_fault : (e f : CidError) (b : List ℕ) → IsFault e b → IsFault f b → e ≡ f
 one_fault InvalidVersion InvalidVersion b h g = refl
 one_fault InvalidVersion InvalidVarint b h g = absurd (not_other_version b g.0 g.1 g.2 h)

@@ -180,7 +180,7 @@ in_front : (k : List ℕ) (t : Tree) (ps : List KeyAndTree) → AllByRecursion (
 in_front k t [] h = refl
 in_front k t (p ∷ ps) h = ap (λ o. cond (is_lt o) (entry k t (entry p.0 p.1 (entries_of ps))) (entry p.0 p.1 (insert k t (entries_of ps)))) h.0
 
--- pairs that are sorted stay as they stand
+-- pairs that are sorted keep their order
 pub ordered_sorted : (ps : List KeyAndTree) → IsSortedList ps → ordered_entries ps ≡ entries_of ps
 unfolding IsStrictlySortedBy
 ordered_sorted [] h = refl

@@ -37,7 +37,7 @@ entries_need_insert k t no_entries = refl
 entries_need_insert k t (entry l u es) =
     entries_need_cond (comes_before k l) (entry k t (entry l u es)) (entry l u (insert k t es)) _ refl (omega (arith, entries_need_insert k t es))
 
--- in whichever order the entries stand, they need as much
+-- the entries need the same number of steps in any order
 pub entries_need_ordered : (ps : List (List ℕ × Tree)) → entries_need (ordered_entries ps) ≡ items_need (items_of (map (λ p. p.1) ps))
 entries_need_ordered [] = refl
 entries_need_ordered (p ∷ ps) = omega (arith, entries_need_insert p.0 p.1 (ordered_entries ps), entries_need_ordered ps)

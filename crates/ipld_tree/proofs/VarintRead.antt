@@ -7,7 +7,7 @@ use Rattle.ipld_tree.specs.Cid.{varint, varint_groups}
 use Rattle.ipld_tree.specs.CidFault.{IsCutVarint, IsNoVarint}
 use Rattle.ipld_tree.proofs.Cids.{one_group, more_groups}
 
--- what the groups left stand for: not zero, unless they are all
+-- the number that the remaining groups stand for: not zero, unless they are all of the groups
 abbrev pub IsRest : ℕ → ℕ → Type 0
 IsRest i m = (0 < m) ⊎ (i ≡ 0)
 
@@ -40,7 +40,7 @@ no_varint_byte_read bytes = record {
 
 -- ---- one group
 
--- at the front of groups stands the last one, or one with more after it
+-- the first group is the last one, or one with more after it
 first_group : (k m g : ℕ) (s y : List ℕ) → g ∷ s ≡ varint_groups (suc k) m ++ y
     → (m < 128) × (g ≡ m) ⊎ (128 ≤ m) × (g ≡ 128 + m % 128) × (s ≡ varint_groups k (m / 128) ++ y)
 first_group k m g s y e = elim (cases_lt m 128) [
@@ -70,7 +70,7 @@ number_shift number unit bits m =
     let outer : m * 128 * unit ≡ m * (unit * 128) = mul_assoc m 128 unit ∙ ap (λ u. m * u) (mul_comm 128 unit) in
     omega (arith, apart, outer)
 
--- a group of lower bits stands before the rest
+-- a group of lower bits is put before the rest
 group_before : (k g bits m : ℕ) → 0 < m → bits < 128 → g ≡ 128 + bits → varint_groups (suc k) (bits + m * 128) ≡ g ∷ varint_groups k m
 group_before k g bits m h low is =
     let lowest : (bits + m * 128) % 128 ≡ bits = omega arith in
@@ -132,7 +132,7 @@ one_varint_byte_read bytes i number unit g bits r here is long byte low ok = by 
 
 -- ---- the ends
 
--- a last group that stands at its place ends a varint
+-- a last group that is at its place ends a varint
 pub last_read : (bytes : List ℕ) (i number unit g bits : ℕ) → IsVarintRead bytes i number unit → i < length bytes → g ≡ get_or bytes i 0 → g < 128 → bits ≡ g % 128
     → ((g ≡ 0) × (0 < i) ⊎ (i ≡ 9) × (g ≢ 1) → ⊥) → (number + bits * unit < 2 ^ 64) × (bytes ≡ varint (number + bits * unit) ++ drop (i + 1) bytes)
 last_read bytes i number unit g bits r here is short low ok = (fits (cases_eq i 9), whole)
@@ -165,7 +165,7 @@ last_read bytes i number unit g bits r here is short low ok = (fits (cases_eq i 
         ∙ sym (append_assoc (take i bytes) (g ∷ []) (drop (i + 1) bytes))
         ∙ ap (λ v. v ++ drop (i + 1) bytes) (sym ends)
 
--- where all bytes are groups with more to come, a 01 would end a varint
+-- if all bytes are groups with more to come, a 01 would end a varint
 pub all_varint_bytes_read : (bytes : List ℕ) (i number unit : ℕ) → IsVarintRead bytes i number unit → length bytes ≤ i → IsCutVarint bytes
 all_varint_bytes_read bytes i number unit r past =
     let most = unit_at_most i r.left unit r.few r.unit_is in

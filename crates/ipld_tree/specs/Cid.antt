@@ -4,7 +4,7 @@ use Rattle.std.specs.declared.cmp.Ordering.{Ordering}
 use Rattle.std.specs.Ordering.{nat_cmp, on, then_cmp}
 use Rattle.std.specs.Cmp.Lexicographic.{slice_cmp}
 
--- n in at most so many groups of seven bits
+-- n in at most this many groups of seven bits
 abbrev pub varint_groups : ℕ → ℕ → List ℕ
 varint_groups zero n = []
 varint_groups (suc more) n =
@@ -14,7 +14,7 @@ varint_groups (suc more) n =
 unfoldable pub varint : ℕ → List ℕ
 varint n = varint_groups 10 n
 
--- a CID, by its version, its codec, the code of its hash function and its digest
+-- the parts of a CID: its version, its codec, the code of its hash function and its digest
 pub record CidParts : Type 0 where
   pub version : ℕ
   pub codec : ℕ
@@ -26,7 +26,7 @@ abbrev pub cid_parts : ℕ → ℕ → ℕ → List ℕ → CidParts
 cid_parts version codec hash_code digest =
     record { version = version; codec = codec; hash_code = hash_code; digest = digest }
 
--- version 0 names a node of the codec dag-pb by its SHA-256
+-- version 0: the codec dag-pb, and a SHA-256 digest of 32 bytes
 abbrev pub IsVersion0 : CidParts → Type 0
 IsVersion0 c = (c.version ≡ 0) × (c.codec ≡ 0x70) × (c.hash_code ≡ 0x12) × (length c.digest ≡ 32)
 

@@ -1,4 +1,4 @@
--- What a CID hands to a hasher.
+-- What a CID feeds to a hasher.
 use Rattle.std.specs.Prelude.{◌≡◌, ℕ, ◌++◌, true, refl}
 use Rattle.std.proofs.Common.{Ordering, Less, Equal, Greater, sym, ap}
 use Rattle.std.proofs.lemmas.Cmp.{ranked}
@@ -40,7 +40,7 @@ is_equal Less x = absurd (true≢false (sym x))
 is_equal Equal x = refl
 is_equal Greater x = absurd (true≢false (sym x))
 
--- equal CIDs hand over the same
+-- equal CIDs feed the same to a hasher
 pub hashes_alike : (c d : CidParts) → eq_by_cmp cid_cmp c d ≡ true
     → cid_hash_input c ≡ cid_hash_input d
 hashes_alike c d h = ap cid_hash_input (same_cid c d (is_equal (cid_cmp c d) h))

@@ -1,4 +1,4 @@
--- What an iterator over CIDs is still to give.
+-- What an iterator over CIDs has still to give.
 use Rattle.std.specs.Prelude.{List}
 use Rattle.std.specs.Vec.Iter.{into_iter_items}
 use Rattle.ipld_tree.specs.Cid.{CidParts}

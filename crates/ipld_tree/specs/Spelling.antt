@@ -44,7 +44,7 @@ abbrev pub boolean_spelling : Bool → List ℕ
 boolean_spelling false = 0xf4 ∷ []
 boolean_spelling true = 0xf5 ∷ []
 
--- major type 0, or 1 below zero
+-- major type 0, or major type 1 for a negative integer
 abbrev pub integer_spelling : ℤ → List ℕ
 integer_spelling (pos n) = head 0 n
 integer_spelling (negsuc n) = head 1 n
@@ -57,8 +57,8 @@ bytes_spelling s = head 2 (length s) ++ s
 abbrev pub text_spelling : List ℕ → List ℕ
 text_spelling s = head 3 (length s) ++ s
 
--- null, false and true are the only simple values; a link is tag 42 before a zero byte and its CID
--- (DAG-CBOR specification, links)
+-- null, false and true are the only simple values; a link is tag 42 and a byte string of a zero and
+-- its CID (DAG-CBOR specification, links)
 abbrev mutual
   pub spelling : Tree → List ℕ
   spelling null = 0xf6 ∷ []

@@ -4,7 +4,7 @@ use Rattle.std.specs.Ordering.{is_eq}
 use Rattle.ipld_tree.specs.Key.{key_cmp, comes_before}
 use Rattle.ipld_tree.specs.Cid.{IsCid}
 
--- the kinds of data: a link stands by the binary form of its CID
+-- the kinds of data; a link holds the binary form of its CID
 mutual
   pub data Tree : Type 0 where
     null : Tree
@@ -25,12 +25,12 @@ mutual
     no_entries : Entries
     entry : List ℕ → Tree → Entries → Entries
 
--- k comes before the first key
+-- k comes before the first key, if there is one
 abbrev pub Precedes : List ℕ → Entries → Type 0
 Precedes k no_entries = ⊤
 Precedes k (entry l t es) = IsTrue (comes_before k l)
 
--- texts are UTF-8, keys rise, each once, and links are CIDs
+-- texts are UTF-8, keys are in rising order, each once, and links are CIDs
 abbrev mutual
   pub IsTree : Tree → Type 0
   IsTree null = ⊤
@@ -57,18 +57,18 @@ abbrev pub items_of : List Tree → Items
 items_of [] = no_items
 items_of (t ∷ ts) = item t (items_of ts)
 
--- the pairs as they stand
+-- the pairs as entries, in the same order
 abbrev pub entries_of : List (List ℕ × Tree) → Entries
 entries_of [] = no_entries
 entries_of (p ∷ ps) = entry p.0 p.1 (entries_of ps)
 
--- the entries, with t at k put into its place
+-- the entries, with t inserted under k in key order
 abbrev pub insert : List ℕ → Tree → Entries → Entries
 insert k t no_entries = entry k t no_entries
 insert k t (entry l u es) =
     if comes_before k l then entry k t (entry l u es) else entry l u (insert k t es)
 
--- the pairs put one by one into their places
+-- the pairs as entries, inserted in key order
 abbrev pub ordered_entries : List (List ℕ × Tree) → Entries
 ordered_entries [] = no_entries
 ordered_entries (p ∷ ps) = insert p.0 p.1 (ordered_entries ps)
@@ -78,25 +78,25 @@ abbrev pub has_key : List ℕ → List (List ℕ × Tree) → Bool
 has_key k [] = false
 has_key k (p ∷ ps) = is_eq (key_cmp k p.0) || has_key k ps
 
--- whether a key is there twice
+-- whether a key occurs twice
 abbrev pub repeats_key : List (List ℕ × Tree) → Bool
 repeats_key [] = false
 repeats_key (p ∷ ps) = has_key p.0 ps || repeats_key ps
 
--- the map of the pairs, and none if a key repeats
+-- the map of the pairs, or `None` if a key repeats
 abbrev pub map_tree : List (List ℕ × Tree) → Option Tree
 map_tree ps = if repeats_key ps then None else Some (mapping (ordered_entries ps))
 
--- the list, and none where an item has no tree
+-- the list of all values, or `None` if one is missing
 abbrev pub all_some : {A : Type 0} → List (Option A) → Option (List A)
 all_some [] = Some []
 all_some (o ∷ os) = option_and_then (λ a. option_map (λ more. a ∷ more) (all_some os)) o
 
--- the list of the parts' trees, and none where a part has none
+-- the list of the parts' trees, or `None` if a part has no tree
 abbrev pub list_tree : List (Option Tree) → Option Tree
 list_tree ts = option_map (λ found. list (items_of found)) (all_some ts)
 
--- a key is a text
+-- the key that a tree is: a text's bytes, and else `None`
 abbrev pub key_of : Tree → Option (List ℕ)
 key_of null = None
 key_of (boolean b) = None
@@ -111,11 +111,11 @@ key_of (link cid) = None
 abbrev pub pair_of : Option Tree × Option Tree → Option (List ℕ × Tree)
 pair_of p = option_and_then (λ k. option_map (λ t. (k, t)) p.1) (option_and_then key_of p.0)
 
--- the map of the keys' and the values' trees
+-- the map of the keys' and the values' trees, or `None` if there is no such map
 abbrev pub entries_tree : List (Option Tree × Option Tree) → Option Tree
 entries_tree ps = option_and_then map_tree (all_some (map pair_of ps))
 
--- the kinds that hold no bytes and no parts of their own: a value of these takes no memory
+-- the tree is of a kind without bytes or parts of its own, so its value takes no memory
 abbrev pub IsBare : Tree → Type 0
 IsBare null = ⊤
 IsBare (boolean b) = ⊤
@@ -128,8 +128,8 @@ IsBare (link cid) = ⊤
 
 -- ---- depth and links
 
--- The steps that an untyped read takes: 1 for a leaf, 2 and the greatest need inside for a list or
--- a map.
+-- The steps that an untyped read takes: 1 for a leaf, and for a list or a map 2 plus the greatest
+-- need inside.
 abbrev mutual
   pub any_need : Tree → ℕ
   any_need null = 1
@@ -149,7 +149,7 @@ abbrev mutual
   entries_need no_entries = 0
   entries_need (entry k t es) = max (any_need t) (entries_need es)
 
--- the links, left to right, repeats kept
+-- the links in order, with repeats
 abbrev mutual
   pub links_of : Tree → List (List ℕ)
   links_of null = []

@@ -4,6 +4,6 @@
 #[derive(Debug, Drop, PartialEq, Eq, PartialOrd, Ord, Hash)]
 pub struct Bytes(pub Vec<u8>);
 
-/// A byte string that is lent.
+/// A borrowed byte string.
 #[derive(Copy, Clone, Debug, PartialEq, Eq, PartialOrd, Ord, Hash)]
 pub struct ByteSlice<'a>(pub &'a [u8]);

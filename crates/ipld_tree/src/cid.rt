@@ -1,4 +1,4 @@
-//! Names of blocks.
+//! CIDs, the names of blocks.
 
 ghost use Rattle.std.proofs.Common.{rules};
 ghost use Rattle.std.specs.Ordering.{eq_by_cmp, as_partial_cmp};
@@ -53,14 +53,14 @@ impl Model for Cid {
 }
 
 impl Cid {
-    /// The CID of version 0: a `dag-pb` node by its SHA-256.
+    /// Returns the CID of version 0: a `dag-pb` node by its SHA-256 digest.
     pub fn new_v0(digest: [u8; 32]) -> Cid
         ensures { result ≡ cid_parts 0 0x70 0x12 digest }
     {
         from_parts(0, DAG_PB, SHA2_256, &digest)
     }
 
-    /// A CID of version 1. Refuses a digest of more than 64 bytes, and nothing else.
+    /// Returns a CID of version 1. Refuses only a digest of more than 64 bytes.
     pub fn new_v1(codec: u64, hash_code: u64, digest: &[u8]) -> Result<Cid, CidError>
         ensures { MatchResult result
             (λ cid. (cid ≡ cid_parts 1 codec hash_code digest.now) × (length digest.now ≤ 64))
@@ -72,7 +72,7 @@ impl Cid {
         Ok(from_parts(1, codec, hash_code, digest))
     }
 
-    /// 0 or 1.
+    /// Returns the version, 0 or 1.
     pub fn version(&self) -> u64
         ensures valid { AreCidParts self.now }
         ensures version { result ≡ self.now.version }
@@ -80,28 +80,29 @@ impl Cid {
         u64::from(self.version)
     }
 
-    /// The code of the format of what is linked (the multicodec table): 0x70 in version 0.
+    /// Returns the code of the format of the linked block (the multicodec table): 0x70 in version
+    /// 0.
     pub fn codec(&self) -> u64
         ensures { result ≡ self.now.codec }
     {
         self.codec
     }
 
-    /// The code of the hash function.
+    /// Returns the code of the hash function.
     pub fn hash_code(&self) -> u64
         ensures { result ≡ self.now.hash_code }
     {
         self.hash_code
     }
 
-    /// The digest that the hash function gave, of at most 64 bytes.
+    /// Returns the digest, of at most 64 bytes.
     pub fn digest(&self) -> &[u8]
         ensures { result.now ≡ self.now.digest }
     {
         &self.digest[..self.length as usize]
     }
 
-    /// The binary form, in memory of its own.
+    /// Returns the binary form, in newly allocated memory.
     pub fn to_bytes(&self, alloc: Global) -> Result<Vec<u8>, AllocError>
         ensures bytes { IfOk result (λ v. v.items ≡ cid_bytes self.now) }
         ensures valid { AreCidParts self.now }
@@ -111,7 +112,7 @@ impl Cid {
         bytes.as_slice().to_vec(alloc)
     }
 
-    /// Puts the binary form in place of what `out` holds.
+    /// Replaces what `out` holds with the binary form.
     pub fn write_bytes(&self, out: &mut ArrayVec<u8, 86>)
         ensures bytes { out.new.items ≡ cid_bytes self.now }
         ensures valid { AreCidParts self.now }
@@ -121,7 +122,7 @@ impl Cid {
         out.try_extend_from_slice(self.digest()).unwrap();
     }
 
-    /// Appends the bytes before the digest.
+    /// Appends the bytes that come before the digest.
     #[tactic(auto, using(crate::proofs::Cids::varint_length, crate::proofs::Cids::one_byte))]
     fn push_front(&self, out: &mut ArrayVec<u8, 86>)
         requires { out.old.items ≡ [] }
@@ -158,7 +159,7 @@ impl TryFrom<&[u8]> for Cid {
     }
 }
 
-/// Puts zeros after the digest.
+/// Returns the CID of these parts, with zeros after its digest.
 fn from_parts(version: u8, codec: u64, hash_code: u64, digest: &[u8]) -> Cid
     requires { AreCidParts (cid_parts version codec hash_code digest.now) }
     ensures { result ≡ cid_parts version codec hash_code digest.now }
@@ -174,7 +175,7 @@ fn from_parts(version: u8, codec: u64, hash_code: u64, digest: &[u8]) -> Cid
     }
 }
 
-/// Reads the bytes after the first byte of version 1.
+/// Reads a CID of version 1 from the bytes after its first byte.
 fn read_version_1(behind: &[u8]) -> Result<Cid, CidError>
     ensures { ReadsBinaryCid (0x01 ∷ behind.now) result }
 {
@@ -191,7 +192,7 @@ fn read_version_1(behind: &[u8]) -> Result<Cid, CidError>
     }
 }
 
-/// The varint at the front, and the bytes after it.
+/// Returns the number whose varint is at the front, and the bytes after it.
 pub fn split_varint(bytes: &[u8]) -> Result<(u64, &[u8]), CidError>
     ensures { MatchResult result
         (λ p. (p.0 < 2 ^ 64) × (bytes.now ≡ varint p.0 ++ p.1.now))
@@ -212,15 +213,15 @@ pub fn split_varint(bytes: &[u8]) -> Result<(u64, &[u8]), CidError>
     Err(CidError::Truncated)
 }
 
-/// Whether no varint has this group at this place. A zero after other groups is not the shortest
-/// form, and only the lowest bit of the tenth group is below 2^64.
+/// Returns whether no varint has this group at this place. A zero after other groups is not the
+/// shortest form, and of the tenth group only the lowest bit is below 2^64.
 fn is_misplaced(group: u8, place: usize) -> bool
     ensures { IsTrue result ↔ ((group ≡ 0) × (0 < place) ⊎ (place ≡ 9) × (group ≢ 1)) }
 {
     (group == 0 && place > 0) || (place == 9 && group != 1)
 }
 
-/// Appends groups of seven bits, the lowest first.
+/// Appends the varint of the number: groups of seven bits, the lowest first.
 #[tactic(auto, using(crate::proofs::Varint::all_left))]
 fn push_varint(out: &mut ArrayVec<u8, 86>, number: u64)
     requires { array_vec_len out.old + length (varint number) ≤ 86 }

@@ -1,11 +1,11 @@
-//! What is wrong with bytes that are no CID.
+//! What is wrong with bytes that are not a CID.
 
 use thiserror::Error;
 
-/// The first fault from the front.
+/// Why bytes are not a CID: the first fault from the front.
 #[derive(Copy, Clone, Debug, PartialEq, Eq, Error)]
 pub enum CidError {
-    /// The first byte is not 01, and the whole is not version 0.
+    /// The first byte is not 01, and the bytes are not a CID of version 0.
     #[error("the version of the CID is neither 0 nor 1")]
     InvalidVersion,
     /// The codec, the hash code or the digest's length is not a varint in shortest form below 2^64.

@@ -1,4 +1,4 @@
-//! Going through a list of CIDs.
+//! An iterator over a list of CIDs.
 
 ghost use Rattle.std.specs.Prelude.{◌≡◌};
 ghost use Rattle.std.specs.Iterator.{YieldsFirst, item_count};
@@ -8,14 +8,14 @@ use crate::cid::Cid;
 use std::alloc::Global;
 use std::vec::IntoIter;
 
-/// Gives the CIDs of a list, one after another.
+/// An iterator over the CIDs of a list, which it owns.
 #[derive(Drop)]
 pub struct CidIter {
     cids: IntoIter<Cid, Global>,
 }
 
 impl CidIter {
-    /// An iterator over these.
+    /// Returns an iterator over these CIDs.
     pub fn new(cids: Vec<Cid>) -> CidIter
         ensures { cids_left result ≡ cids.items }
     {

@@ -7,8 +7,8 @@ ghost use Rattle.ipld_tree.specs.Codecs.{DataHasOneEncoding};
 use std::alloc::Global;
 use std::io::{BufRead, Write};
 
-/// A format in which values of type `T` are written and read. What is read borrows nothing: `'de`
-/// is the lifetime of an input that no value sees.
+/// A format in which values of type `T` are written and read. A value that is read borrows nothing:
+/// it does not see the input of lifetime `'de`.
 pub trait Codec<'de, T> {
     /// The code of the format (the multicodec table).
     const CODE: u64;
@@ -17,16 +17,16 @@ pub trait Codec<'de, T> {
 
     ghost CODE: { ℕ };
 
-    /// What bytes of the format mean.
+    /// The data that bytes of the format encode.
     ghost Data: { Type 0 };
 
     /// What a value holds, wherever it is in memory.
     ghost View: { Type 0 };
 
-    /// These bytes, all of them, are an encoding of the data: for writing and for reading.
+    /// All of these bytes are an encoding of the data, for writing and for reading.
     ghost is_encoding: { List ℕ → Data → Type 0 };
 
-    /// The data of a value, or none.
+    /// The data of a value, or `None` if it has no data.
     ghost data_of: { T → Option Data };
 
     ghost meaning: { T → View };
@@ -34,7 +34,7 @@ pub trait Codec<'de, T> {
     /// The data is read as a value that holds this.
     ghost is_read: { Data → View → Type 0 };
 
-    /// The error says nothing of the value or the bytes: want of memory, or a fault of the device.
+    /// The error says nothing about the value or the bytes: out of memory, or a device error.
     ghost is_excuse: { Self.Error → Type 0 };
 
     /// Reads the value whose encoding is all of the source's bytes.
@@ -51,13 +51,13 @@ pub trait Codec<'de, T> {
         ensures answers { Encodes is_encoding is_excuse (data_of value.now)
             (W.contents writer.old) result (W.contents writer.new) };
 
-    /// The value's encoding.
+    /// Returns the value's encoding.
     fn encode_to_vec(alloc: Global, value: &T) -> Result<Vec<u8>, Self::Error>
         ensures answers { EncodesAsVec is_encoding is_excuse (data_of value.now) result };
 
-    /// No two data share an encoding.
+    /// Bytes are an encoding of at most one datum.
     ghost unique: { EncodingsAreUnique is_encoding };
 
-    /// Data has one encoding at most.
+    /// A datum has at most one encoding.
     ghost canonical: { DataHasOneEncoding is_encoding };
 }

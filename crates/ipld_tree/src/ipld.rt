@@ -25,7 +25,7 @@ pub enum Ipld {
 }
 
 impl Ipld {
-    /// The steps that an untyped read of the tree takes, or `u64::MAX` if there are more.
+    /// Returns the steps that an untyped read of the tree takes, or `u64::MAX` if there are more.
     #[cycle(depth_need)]
     pub fn depth_need(&self) -> u64
         ensures { result ≡ min (any_need (tree_of self.now)) (2 ^ 64 - 1) }
@@ -37,7 +37,7 @@ impl Ipld {
         }
     }
 
-    /// An equal value. An `Err` leaves this one as it was.
+    /// Returns an equal value. If it runs out of memory, this value stays as it was.
     #[cycle(try_clone)]
     pub fn try_clone(&self, alloc: Global) -> Result<Ipld, AllocError>
         ensures same { IfOk result (λ copy. tree_of copy ≡ tree_of self.now) }
@@ -56,7 +56,7 @@ impl Ipld {
     }
 }
 
-/// The greatest need of the items.
+/// Returns the greatest need of the items, in steps, or `u64::MAX` if it is more.
 #[cycle(depth_need)]
 fn need_of_items(items: &[Ipld]) -> u64
     ensures { result ≡ min (items_need (items_of (trees_of items.now))) (2 ^ 64 - 1) }
@@ -68,7 +68,7 @@ fn need_of_items(items: &[Ipld]) -> u64
     greatest
 }
 
-/// The greatest need of the values.
+/// Returns the greatest need of the values, in steps, or `u64::MAX` if it is more.
 #[cycle(depth_need)]
 fn need_of_values(entries: &BTreeMap<String, Ipld>) -> u64
     ensures { let values = map (λ e. e.1) entries.now.entries in
@@ -120,7 +120,7 @@ impl PartialEq for Ipld {
     }
 }
 
-/// Whether the two have one tree.
+/// Returns whether the two have the same tree.
 #[cycle(equal)]
 fn equal(left: &Ipld, right: &Ipld) -> bool
     ensures { IsTrue result ↔ (tree_of left.now ≡ tree_of right.now) }
@@ -142,7 +142,7 @@ fn equal(left: &Ipld, right: &Ipld) -> bool
 fn equal_links(left: &Cid, right: &Cid) -> bool
     ensures { IsTrue result ↔ (cid_bytes left.now ≡ cid_bytes right.now) }
 {
-    // What is known of each `Cid` comes with its version.
+    // By the contract of `version`, the proof knows that each `Cid` is valid.
     let _versions = (left.version(), right.version());
     left == right
 }

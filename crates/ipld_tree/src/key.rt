@@ -5,7 +5,7 @@ ghost use Rattle.ipld_tree.specs.Key.{comes_before, key_cmp};
 
 use std::cmp::Ordering;
 
-/// The order of two keys: the shorter first, and keys of one length by their bytes.
+/// Returns the order of two keys: the shorter first, and keys of equal length by their bytes.
 pub fn key_cmp(key: &[u8], other: &[u8]) -> Ordering
     ensures { result ≡ key_cmp key.now other.now }
 {
@@ -15,7 +15,8 @@ pub fn key_cmp(key: &[u8], other: &[u8]) -> Ordering
     }
 }
 
-/// Whether a key comes before another. Keys of one length are compared by their first bytes first.
+/// Returns whether a key comes before another. Keys of equal length are compared by their first
+/// bytes first.
 #[inline]
 pub fn comes_before(key: &[u8], other: &[u8]) -> bool
     ensures { result ≡ comes_before key.now other.now }

@@ -5,12 +5,12 @@ ghost use Rattle.ipld_tree.specs.Laws.{EqualityIsOfTrees, CidEqualityIsOfBytes};
 ghost use Rattle.ipld_tree.specs.CidFault.{CidFaultsAreUnique};
 ghost use Rattle.ipld_tree.specs.Spelled.{SpelledIsTheSpelling};
 
-/// Unique readability: no two trees share a spelling, and no spelling begins another's.
+/// Unique readability: no two trees share a spelling, and no spelling begins another.
 pub fn spelling_unique()
     ensures { SpellingsAreUnique }
 {}
 
-/// Key order: entries with different keys have the same order, by their bytes, as their keys.
+/// Key order: spelled entries with different keys compare, by their bytes, as their keys do.
 pub fn key_order()
     ensures { SpelledKeysKeepTheirOrder }
 {}
@@ -20,7 +20,7 @@ pub fn equality()
     ensures { EqualityIsOfTrees }
 {}
 
-/// The bytes that are spelled are the spelling of a spellable tree, and nothing else.
+/// `spelled` gives the spelling of each spellable tree, and `None` for any other.
 pub fn spelled_is_the_spelling()
     ensures { SpelledIsTheSpelling }
 {}
@@ -30,7 +30,8 @@ pub fn cid_equality()
     ensures { CidEqualityIsOfBytes }
 {}
 
-/// Bytes have at most one fault, and a CID has none. Bytes that `Cid::try_from` refuses have one.
+/// Bytes have at most one fault, and a CID has no fault. Bytes that `Cid::try_from` refuses have
+/// one.
 pub fn cid_faults()
     ensures { CidFaultsAreUnique }
 {}

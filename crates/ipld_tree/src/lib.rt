@@ -1,4 +1,4 @@
-//! The data of DAG-CBOR: what a tree is, the one spelling that it has, and trees as values.
+//! The data of DAG-CBOR: what a tree is, its one spelling, and trees as values.
 //!
 //! 128 nested lists, the innermost empty, take 256 steps to read:
 //!

@@ -10,16 +10,16 @@ use std::alloc::Global;
 pub trait Links {
     type LinksError;
 
-    /// The bytes begin with such data, which has these links, in their order, as binary forms.
+    /// The bytes begin with data of the format, whose links are these, in order, in binary form.
     ghost has_links: { List ℕ → List (List ℕ) → Type 0 };
 
-    /// The error says nothing of the bytes: want of memory.
+    /// The error says nothing about the bytes: out of memory.
     ghost is_excuse: { Self.LinksError → Type 0 };
 
-    /// The links of the data with which the bytes begin.
+    /// Returns the links of the data with which the bytes begin.
     fn links(alloc: Global, bytes: &[u8]) -> Result<CidIter, Self::LinksError>
         ensures answers { FindsLinks has_links is_excuse bytes.now result };
 
-    /// Bytes have one list of links.
+    /// Bytes have at most one list of links.
     ghost unique: { BytesHaveOneList has_links };
 }

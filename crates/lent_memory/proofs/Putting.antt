@@ -23,7 +23,7 @@ length_put_at at bs old = by (ltb (length old) (at + length bs)) refl
     by true e = refl
     by false e = length_filled at bs old (ltb-false (length old) (at + length bs) (sym e))
 
--- bytes after those that stand at the front
+-- bytes put after those at the front
 pub put_behind : (bs more before : List ℕ) → length bs + length more ≤ length before → put_at (length bs) more (bs ++ drop (length bs) before) ≡ (bs ++ more) ++ drop (length (bs ++ more)) before
 put_behind bs more before h =
     let rest = drop (length bs) before in

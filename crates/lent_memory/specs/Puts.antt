@@ -1,18 +1,18 @@
--- Bytes in memory, after those that stay before them.
+-- Bytes put at a place in memory.
 use Rattle.std.specs.Prelude.{◌≡◌, ℕ, suc, ◌+◌, List, ◌∷◌, ◌++◌, length, take, drop, if◌then◌else◌, nat_lt}
 use Rattle.dagcbor_core.specs.Head.{head}
 
--- memory with the bytes at its front, where there is room for them; else the memory stays
+-- the memory with the bytes at its front, or unchanged if there is no room for them
 abbrev pub with_front : List ℕ → List ℕ → List ℕ
 with_front bytes old = if nat_lt (length old) (length bytes) then old
     else bytes ++ drop (length bytes) old
 
--- memory with the bytes at a place, where there is room for them; else the memory stays
+-- the memory with the bytes at a place, or unchanged if there is no room for them
 abbrev pub put_at : ℕ → List ℕ → List ℕ → List ℕ
 put_at at bytes old = if nat_lt (length old) (at + length bytes) then old
     else take at old ++ (bytes ++ drop (at + length bytes) old)
 
--- the bytes were put at the place, and this is the place after them
+-- the bytes were put at the place, and `end` is the place after them
 abbrev pub PutsAt : List ℕ → ℕ → List ℕ → List ℕ → ℕ → Type 0
 PutsAt s at old new end = (end ≡ at + length s) × (new ≡ put_at at s old)
 

@@ -1,4 +1,4 @@
-//! Bytes and heads, put into memory that a caller lends. No memory is taken.
+//! Puts bytes and heads into memory that the caller lends. It allocates nothing.
 #![tactic(auto)]
 
 mod part;

@@ -1,4 +1,4 @@
-//! Strings and links, counted, and put at a place that has room for them.
+//! The lengths of strings and links, and puts of them at a place that has room for them.
 
 ghost use Rattle.std.specs.Prelude.{◌≡◌, ◌+◌, ◌≤◌, ◌∷◌, ◌++◌, length, suc, ℕ};
 ghost use Rattle.dagcbor_core.specs.Head.{head};
@@ -6,7 +6,7 @@ ghost use Rattle.lent_memory.specs.Puts.{PutsAt, string_form, link_form};
 
 use crate::place::{head_length, put, put_head};
 
-/// How many bytes a string of these bytes has.
+/// Returns how many bytes a string of these bytes has, with its head.
 #[inline(always)]
 pub fn string_length(bytes: &[u8]) -> usize
     ensures few { result ≤ 9 + length bytes.now }
@@ -15,7 +15,7 @@ pub fn string_length(bytes: &[u8]) -> usize
     head_length(bytes.len() as u64) + bytes.len()
 }
 
-/// How many bytes a link of this CID has.
+/// Returns how many bytes a link of this CID has.
 #[inline(always)]
 pub fn link_length(cid: &[u8]) -> usize
     ensures few { result ≤ 12 + length cid.now }
@@ -24,7 +24,7 @@ pub fn link_length(cid: &[u8]) -> usize
     2 + head_length(1 + cid.len() as u64) + 1 + cid.len()
 }
 
-/// Puts a string of the major type at the place: the place after it.
+/// Puts a string of the major type at the place, and returns the place after it.
 #[inline(always)]
 pub fn put_string(out: &mut [u8], at: usize, major: u8, bytes: &[u8]) -> usize
     requires small { major ≤ 7 }
@@ -35,7 +35,7 @@ pub fn put_string(out: &mut [u8], at: usize, major: u8, bytes: &[u8]) -> usize
     put(out, behind, bytes)
 }
 
-/// Puts a link of this CID at the place: the place after it.
+/// Puts a link of this CID at the place, and returns the place after it.
 #[inline(always)]
 pub fn put_link(out: &mut [u8], at: usize, cid: &[u8]) -> usize
     requires { at + length (link_form cid.now) ≤ length out.old }

@@ -1,10 +1,10 @@
-//! Bytes and heads, put at a place that has room for them.
+//! Puts bytes and heads at a place that has room for them.
 
 ghost use Rattle.std.specs.Prelude.{◌≡◌, ◌+◌, ◌≤◌, length, ℕ};
 ghost use Rattle.dagcbor_core.specs.Head.{head};
 ghost use Rattle.lent_memory.specs.Puts.{PutsAt};
 
-/// Puts the bytes at the place: the place after them.
+/// Puts the bytes at the place, and returns the place after them.
 #[inline(always)]
 pub fn put(out: &mut [u8], at: usize, bytes: &[u8]) -> usize
     requires { at + length bytes.now ≤ length out.old }
@@ -15,7 +15,8 @@ pub fn put(out: &mut [u8], at: usize, bytes: &[u8]) -> usize
     end
 }
 
-/// Puts the shortest head. How many bytes it has is known at each place, so that no copy is called.
+/// Puts the shortest head at the place, and returns the place after it. In each branch the length
+/// of the head is known, so no copy is called.
 #[inline(always)]
 #[tactic(auto, unfolding(dagcbor_core::specs::Head::head))]
 pub fn put_head(out: &mut [u8], at: usize, major: u8, argument: u64) -> usize
@@ -40,7 +41,7 @@ pub fn put_head(out: &mut [u8], at: usize, major: u8, argument: u64) -> usize
     }
 }
 
-/// How many bytes the shortest head of this argument has.
+/// Returns how many bytes the shortest head of this argument has.
 #[inline(always)]
 #[tactic(auto, unfolding(dagcbor_core::specs::Head::head))]
 pub fn head_length(argument: u64) -> usize

@@ -14,7 +14,7 @@ use crate::serializer::Serializer;
 use dagcbor_heads::{Write, WriteResult};
 use std::alloc::Global;
 
-/// Takes the items of a list whose number was announced, and writes each at once.
+/// The collector of a list whose number of items was announced. It writes each item at once.
 pub struct BoundedCollect<'a, W> {
     ser: &'a mut Serializer<W>,
     alloc: Global,
@@ -34,7 +34,7 @@ impl<W> Drop for BoundedCollect<'_, W> {
 }
 
 impl<W: Write> Serializer<W> {
-    /// Begins a list of `len` items: its head goes out at once.
+    /// Begins a list of `len` items, and writes its head at once.
     pub fn serialize_tuple(
         &mut self,
         alloc: Global,
@@ -94,7 +94,7 @@ impl<W: Write> Serializer<W> {
 }
 
 impl<W: Write> BoundedCollect<'_, W> {
-    /// How many of the announced items are still to come.
+    /// Returns how many of the announced items are still to come.
     pub fn left(&self) -> usize
         ensures { result ≡ bounded_left self.now }
     {
@@ -111,7 +111,7 @@ impl<W: Write> BoundedCollect<'_, W> {
         value.serialize(self.alloc, self.ser)
     }
 
-    /// Writes the next field: as `serialize_element`.
+    /// Writes the next field, as `serialize_element`.
     pub fn serialize_field<T: Serialize>(&mut self, value: &T) -> WriteResult<(), W>
         requires { 0 < bounded_left self.old }
         ensures { WritesItem W.written (T.takes_memory || W.takes_memory)

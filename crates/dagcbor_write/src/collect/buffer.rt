@@ -1,4 +1,4 @@
-//! Values that are written to memory before they go out.
+//! Values that are spelled in memory before they are written.
 
 ghost use Rattle.std.specs.Prelude.{◌≡◌, ◌+◌, ◌≤◌, [], length, OnErr};
 ghost use Rattle.dagcbor_write.specs.Gathering.{Waiting, Grows, RefusedFor, Collects};
@@ -11,10 +11,10 @@ use std::alloc::Global;
 use std::marker::Model;
 use std::mem;
 
-/// The room that the bytes get at first, so that they do not grow step by step for a short value.
+/// The first capacity in bytes, so that the memory does not grow step by step for a short value.
 pub(crate) const FIRST_ROOM: usize = 128;
 
-/// Appends the value's spelling to the bytes. A value that has none is refused with `refusal`.
+/// Appends the value's spelling to the bytes. A value without a spelling is refused with `refusal`.
 /// After a refusal the bytes are as before.
 pub(crate) fn append<T: Serialize, E>(
     alloc: Global,
@@ -45,7 +45,7 @@ pub(crate) fn append<T: Serialize, E>(
     }
 }
 
-/// Values that wait, spelled one after the other, and their number.
+/// The spellings of values that wait until their number is known, and that number.
 #[derive(Drop)]
 pub struct Buffer {
     bytes: Vec<u8>,
@@ -82,7 +82,7 @@ impl Buffer {
         self.count
     }
 
-    /// Writes a value after the others. After a refusal the others wait as before.
+    /// Appends a value's spelling to the others. After a refusal the others are as before.
     pub(crate) fn gather<T: Serialize, E>(
         &mut self,
         alloc: Global,

@@ -27,7 +27,7 @@ use std::alloc::Global;
 /// The message for a map with two equal keys.
 pub(crate) const REPEATED_KEY: &str = "Map keys must be unique";
 
-/// Takes the entries of a map. They go out at its end, in key order.
+/// The collector of a map. It writes the entries at the map's end, in key order.
 pub struct CollectMap<'a, W, G = Gathered> {
     ser: &'a mut Serializer<W>,
     alloc: Global,
@@ -47,7 +47,7 @@ impl<W, G: Drop> Drop for CollectMap<'_, W, G> {
 }
 
 impl<W: Write> Serializer<W> {
-    /// Begins a map. Nothing goes out before its end. The length is not looked at.
+    /// Begins a map. Nothing is written before its end. The length is ignored.
     pub fn serialize_map(&mut self, alloc: Global, _len: Option<usize>) -> CollectMap<'_, W>
         ensures same_reference { SameLoan self.entry (map_lent result) }
         ensures unchanged { (map_lent result).now ≡ self.old }
@@ -60,7 +60,7 @@ impl<W: Write> Serializer<W> {
         }
     }
 
-    /// Begins a struct of `len` fields, as a map: its head goes out at once.
+    /// Begins a struct of `len` fields, as a map, and writes its head at once.
     pub fn serialize_struct(
         &mut self,
         alloc: Global,
@@ -110,7 +110,7 @@ impl<W: Write> Serializer<W> {
         })
     }
 
-    /// Writes the entries in key order, after the head if that is not out yet.
+    /// Writes the entries in key order, after the map's head if that was not written yet.
     fn push_map(&mut self, mut state: Gathered) -> WriteResult<(), W>
         ensures written { (given : List Pair) → AreSpellingsOf given state.entries
             → Writes (map_rest (is_some state.announced) given)
@@ -128,7 +128,7 @@ impl<W: Write> Serializer<W> {
         }
     }
 
-    /// Writes the head of a map, if it is not out yet.
+    /// Writes the head of a map, if it was not written yet.
     fn push_head_if_due(&mut self, announced: Option<usize>, count: usize) -> WriteResult<(), W>
         ensures written { Writes (head_rest (is_some announced) count)
             (W.written self.old) (W.written self.new) result }
@@ -140,7 +140,7 @@ impl<W: Write> Serializer<W> {
         }
     }
 
-    /// Writes the entries in their present order, after the head if that is not out yet.
+    /// Writes the entries in their present order, after the map's head if that was not written yet.
     fn push_entries(&mut self, state: &Gathered) -> WriteResult<(), W>
         ensures written { Writes
             (head_rest (is_some state.now.announced) (length state.now.entries)
@@ -157,14 +157,14 @@ impl<W: Write> Serializer<W> {
 }
 
 impl<W: Write> CollectMap<'_, W> {
-    /// Whether a key waits for its value.
+    /// Returns whether a key waits for its value.
     pub fn has_key(&self) -> bool
         ensures { result ≡ is_some (map_state self.now).key }
     {
         self.state.has_key()
     }
 
-    /// Whether no key waits for its value, and there are as many entries as were announced.
+    /// Returns whether no key waits for its value, and there are as many entries as were announced.
     pub fn is_complete(&self) -> bool
         ensures { result ≡ is_complete (map_state self.now) }
     {
@@ -230,8 +230,8 @@ impl<W: Write> CollectMap<'_, W> {
         self.serialize_entry(&name, value)
     }
 
-    /// Ends the map: its entries go out in key order. Two equal keys are refused with `Msg("Map
-    /// keys must be unique")` before anything is written.
+    /// Ends the map, and writes its entries in key order. Two equal keys are refused with
+    /// `Msg("Map keys must be unique")` before anything is written.
     pub fn end(self) -> WriteResult<(), W>
         requires { IsTrue (is_complete (map_state self)) }
         ensures written { (given : List Pair) → AreSpellingsOf given (map_state self.entry).entries

@@ -18,18 +18,18 @@ use crate::serializer::Serializer;
 use dagcbor_heads::{Write, WriteResult};
 use std::alloc::Global;
 
-/// What an item that waits is refused with.
+/// The message for an item that is to wait and has no spelling.
 const BAD_ELEMENT: &str = "List element cannot be serialized";
 
-/// What a list has before its end. If the number of items was announced: how many are still to
-/// come. Else: the items, which wait for their number.
+/// The state of a list before its end. If the number of items was announced: how many are still to
+/// come. Else: the items, which wait until their number is known.
 #[derive(Drop)]
 pub enum ListState {
     Announced(usize),
     Waits(Buffer),
 }
 
-/// Takes the items of a list.
+/// The collector of a list.
 pub struct CollectSeq<'a, W, I = ListState> {
     ser: &'a mut Serializer<W>,
     alloc: Global,
@@ -49,8 +49,8 @@ impl<W, I: Drop> Drop for CollectSeq<'_, W, I> {
 }
 
 impl<W: Write> Serializer<W> {
-    /// Begins a list. If the number of its items is known, its head goes out at once. Else the
-    /// items wait in memory until the list ends, and nothing can fail here.
+    /// Begins a list. If the number of its items is known, writes its head at once. Else the items
+    /// wait in memory until the list ends, and nothing can fail here.
     pub fn serialize_seq(
         &mut self,
         alloc: Global,
@@ -79,7 +79,7 @@ impl<W: Write> Serializer<W> {
         })
     }
 
-    /// Writes the items that waited, after their number.
+    /// Writes the head of the list, and the items that waited.
     fn push_waiting(&mut self, buffer: &Buffer) -> WriteResult<(), W>
         ensures written { Writes (spelled_head 4 buffer.now.count ++? Some buffer.now.bytes)
             (W.written self.old) (W.written self.new) result }
@@ -91,7 +91,8 @@ impl<W: Write> Serializer<W> {
 }
 
 impl<W: Write> CollectSeq<'_, W> {
-    /// How many of the announced items are still to come. `None` if no number was announced.
+    /// Returns how many of the announced items are still to come, or `None` if no number was
+    /// announced.
     pub fn left(&self) -> Option<usize>
         ensures { result ≡ elements_left (list_state self.now) }
     {
@@ -124,8 +125,8 @@ impl<W: Write> CollectSeq<'_, W> {
         }
     }
 
-    /// Ends the list: the items that waited go out after their number. If the number was announced,
-    /// nothing is left to write, and nothing can fail.
+    /// Ends the list, and writes the items that waited, after their number. If the number was
+    /// announced, nothing is left to write, and nothing can fail.
     pub fn end(self) -> WriteResult<(), W>
         requires { IsComplete (list_state self) }
         ensures written { Writes (waiting_text (list_state self.entry))

@@ -18,7 +18,7 @@ use std::marker::Model;
 /// The message for a key without a spelling.
 pub(crate) const BAD_KEY: &str = "Map key cannot be serialized.";
 
-/// What a key that is no text is refused with.
+/// The message for a key that is not a text.
 pub(crate) const NO_TEXT: &str = "Map keys must be strings";
 
 /// The message for a value without a spelling.
@@ -33,7 +33,7 @@ pub struct Span {
 }
 
 /// The entries of a map, encoded in one buffer. A key that waits for its value begins at `key`, and
-/// ends the buffer. Bytes outside all spans do not count, as a key whose value was refused.
+/// ends the buffer. Bytes outside all spans do not count, such as a key whose value was refused.
 #[derive(Drop)]
 pub struct Gathered {
     bytes: Vec<u8>,
@@ -84,7 +84,7 @@ impl Gathered {
         self.spans.len()
     }
 
-    /// The key and the value of the entry in place `i`.
+    /// Returns the key and the value of entry `i`, one after the other.
     pub(crate) fn entry(&self, i: usize) -> &[u8]
         requires { i < length self.now.entries }
         ensures { (d : Texts)
@@ -166,7 +166,7 @@ impl Gathered {
         Ok(())
     }
 
-    /// Sorts the entries, and says whether no key is repeated.
+    /// Sorts the entries, and returns whether no key is repeated.
     pub(crate) fn put_in_order(&mut self) -> bool
         ensures announced { self.new.announced ≡ self.old.announced }
         ensures order { PutsInOrder self.old.entries self.new.entries result }
@@ -175,7 +175,7 @@ impl Gathered {
     }
 }
 
-/// The bytes of a range, as far as it lies within them.
+/// Returns the bytes of a range, as far as it lies within them.
 #[inline(always)]
 pub(crate) fn range(bytes: &[u8], start: usize, end: usize) -> &[u8]
     ensures { result.now ≡ slice_range bytes.now start end }
@@ -184,7 +184,7 @@ pub(crate) fn range(bytes: &[u8], start: usize, end: usize) -> &[u8]
     &bytes[start.min(end)..end]
 }
 
-/// The key of the entry in place `i`.
+/// Returns the key of entry `i`.
 #[inline(always)]
 pub fn entry_key<'a>(bytes: &'a [u8], spans: &[Span], i: usize) -> &'a [u8]
     requires { i < length spans.now }
@@ -195,7 +195,7 @@ pub fn entry_key<'a>(bytes: &'a [u8], spans: &[Span], i: usize) -> &'a [u8]
     range(bytes, span.start, span.key_end)
 }
 
-/// The key and the value of the entry in place `i`.
+/// Returns the key and the value of entry `i`, one after the other.
 #[inline(always)]
 pub fn entry_bytes<'a>(bytes: &'a [u8], spans: &[Span], i: usize) -> &'a [u8]
     requires { i < length spans.now }
@@ -205,7 +205,7 @@ pub fn entry_bytes<'a>(bytes: &'a [u8], spans: &[Span], i: usize) -> &'a [u8]
     range(bytes, span.start, span.end)
 }
 
-/// Whether no entry has the key of the one before it.
+/// Returns whether no entry has the key of the previous one.
 fn keys_differ(bytes: &[u8], spans: &[Span]) -> bool
     ensures { KeysDiffer (map (entry_at bytes.now) spans.now) result }
 {
@@ -217,7 +217,7 @@ fn keys_differ(bytes: &[u8], spans: &[Span]) -> bool
     true
 }
 
-/// Sorts entries by their bytes, and says whether no key is repeated. For different keys this is
+/// Sorts entries by their bytes, and returns whether no key is repeated. For different keys this is
 /// key order.
 pub fn put_in_order(bytes: &[u8], spans: &mut [Span]) -> bool
     ensures order { All (IsWithin (length bytes.now)) spans.old
@@ -231,7 +231,7 @@ pub fn put_in_order(bytes: &[u8], spans: &mut [Span]) -> bool
     keys_differ(bytes, spans)
 }
 
-/// Whether a spelling is that of a text.
+/// Returns whether a spelling is that of a text.
 pub(crate) fn begins_text(bytes: &[u8]) -> bool
     ensures { result ≡ begins_text bytes.now }
 {

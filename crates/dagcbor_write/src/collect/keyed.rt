@@ -33,7 +33,7 @@ pub(crate) struct KeySpan<'a, V> {
     value: &'a V,
 }
 
-/// Entries of a map. A key is in the buffer, spelled; its value is where the map has it.
+/// Entries of a map. The keys are spelled in the buffer, and the values stay in the map.
 #[derive(Drop)]
 pub(crate) struct Keyed<'a, V> {
     keys: Serializer<BufWriter>,
@@ -53,7 +53,7 @@ impl<'a, V> Model for Keyed<'a, V> {
 }
 
 impl<'a, V> Keyed<'a, V> {
-    /// No entry yet, and room for so many.
+    /// Returns an empty list of entries, with room for `count`.
     pub(crate) fn with_room(alloc: Global, count: usize) -> Result<Keyed<'a, V>, AllocError>
         ensures { IfOk result (λ k. k ≡ []) }
     {
@@ -75,7 +75,7 @@ impl<'a, V> Keyed<'a, V> {
         self.spans.len()
     }
 
-    /// The key of the entry in place `i`.
+    /// Returns the spelled key of entry `i`.
     fn key(&self, i: usize) -> &[u8]
         requires { i < length self.now }
         ensures { (d : List ℕ × V) → result.now ≡ (slice_index_or self.now i d).0 }
@@ -84,7 +84,7 @@ impl<'a, V> Keyed<'a, V> {
         &self.keys.writer().buffer()[span.start..span.end]
     }
 
-    /// The value of the entry in place `i`.
+    /// Returns the value of entry `i`.
     fn value(&self, i: usize) -> &V
         requires { i < length self.now }
         ensures { (d : List ℕ × V) → result.now ≡ (slice_index_or self.now i d).1 }
@@ -116,8 +116,8 @@ impl<'a, V> Keyed<'a, V> {
         Ok(())
     }
 
-    /// Sorts the entries by the bytes of their keys, which is key order, and says whether no key is
-    /// repeated.
+    /// Sorts the entries by the bytes of their keys, which is key order, and returns whether no key
+    /// is repeated.
     pub(crate) fn put_in_order(&mut self) -> bool
         ensures { PutsKeysInOrder self.old self.new result }
     {
@@ -128,7 +128,7 @@ impl<'a, V> Keyed<'a, V> {
         self.keys_differ()
     }
 
-    /// Whether no entry has the key of the one before it.
+    /// Returns whether no entry has the key of the previous one.
     fn keys_differ(&self) -> bool
         ensures { KeysDiffer self.now result }
     {
@@ -142,7 +142,7 @@ impl<'a, V> Keyed<'a, V> {
 }
 
 impl<V: Serialize> Keyed<'_, V> {
-    /// Writes the entries in their present order, after their number.
+    /// Writes the head of the map, and the entries in their present order.
     #[tactic(auto, using(crate::proofs::Messages::none_as))]
     pub(crate) fn write<W: Write>(
         &self,
@@ -166,7 +166,7 @@ impl<V: Serialize> Keyed<'_, V> {
     }
 }
 
-/// Appends a key to the others, spelled. A key without a spelling is refused.
+/// Appends a key's spelling to the others. A key without a spelling is refused.
 fn spell_key<K: Serialize, E>(
     alloc: Global,
     keys: &mut Serializer<BufWriter>,
@@ -182,7 +182,7 @@ fn spell_key<K: Serialize, E>(
     }
 }
 
-/// The refusal of a map whose key was refused so.
+/// Returns the refusal of a map whose key was refused with this error.
 #[cold]
 #[inline(never)]
 fn refused_key<E>(error: EncodeError<Infallible>) -> EncodeError<E>
@@ -196,8 +196,8 @@ fn refused_key<E>(error: EncodeError<Infallible>) -> EncodeError<E>
     }
 }
 
-/// Appends a value of a map. A value without a spelling is refused as such, whatever is wrong in
-/// it.
+/// Appends a value of a map. A value without a spelling is refused with one message, whatever the
+/// reason.
 #[inline(always)]
 pub(crate) fn write_value<V: Serialize, W: Write>(
     alloc: Global,
@@ -216,7 +216,7 @@ pub(crate) fn write_value<V: Serialize, W: Write>(
     }
 }
 
-/// The refusal of a map whose value was refused so.
+/// Returns the refusal of a map whose value was refused with this error.
 #[cold]
 #[inline(never)]
 fn refused_value<E>(error: EncodeError<E>) -> EncodeError<E>

@@ -35,7 +35,7 @@ impl Serialize for Ipld {
 }
 
 /// Appends a leaf, if the writer has room for it. Else, and for a list or a map, it appends
-/// nothing, and answers false.
+/// nothing, and returns false.
 #[inline(always)]
 fn leaf_at_once<W: Write>(value: &Ipld, ser: &mut Serializer<W>) -> bool
     ensures written { WritesAtOnce (spelled (tree_of value.now))
@@ -74,7 +74,7 @@ fn push_data<W: Write>(value: &Ipld, alloc: Global, ser: &mut Serializer<W>) -> 
         Ipld::Bytes(bytes) => ser.serialize_bytes(bytes.as_slice()),
         Ipld::List(items) => items.serialize(alloc, ser),
         Ipld::Map(entries) => {
-            // No effect at run time. The proof reads from this call that no key repeats.
+            // No effect at run time. From this call the proof knows that no key repeats.
             let _ = entries.iter();
             write_texts(alloc, entries, ser)
         }

@@ -15,7 +15,7 @@ use std::alloc::Global;
 
 /// A part of a tuple, or `()` if a tuple has no such part.
 trait Part: Copy {
-    /// The part's tree, in a list of one. An empty list if there is no part.
+    /// The part's tree, in a list of one, or an empty list if there is no part.
     ghost trees: { Self → List (Option Tree) };
 
     ghost takes_memory: { Bool };

@@ -20,7 +20,7 @@ use std::collections::{BTreeMap, HashMap};
 use std::hash::Hash;
 
 /// Appends the map of the entries that an iterator has left, in key order. `count` is their number,
-/// for speed only. Nothing goes out before each key is spelled. Then each value goes straight to
+/// for speed only. Nothing is written before each key is spelled. Then each value goes straight to
 /// the writer.
 fn write_entries<
     'a,
@@ -62,9 +62,9 @@ impl<K: Ord + Serialize, V: Serialize> Serialize for BTreeMap<K, V> {
 
     ghost message = { λ m. RefusesEntries (map (λ e. (K.tree e.0, V.tree e.1)) m.entries) };
 
-    /// Its message is that of the part without a spelling: a key, a repeated key, or a value. If it
-    /// is that of a key, nothing went out. Nor did it if memory is wanting, unless the values or the
-    /// writer take some.
+    /// Appends the map. Its message is that of the part without a spelling: a key, a repeated key,
+    /// or a value. If it is that of a key, nothing was written. If memory runs out, nothing was
+    /// written either, unless the values or the writer take memory.
     fn serialize<W: Write>(&self, alloc: Global, ser: &mut Serializer<W>) -> WriteResult<(), W>
         ensures written { Writes (spelled_tree (entries_tree
             (map (λ e. (K.tree e.0, V.tree e.1)) self.now.entries)))
@@ -89,9 +89,9 @@ impl<K: Eq + Hash + Serialize, V: Serialize> Serialize for HashMap<K, V> {
 
     ghost message = { λ m. RefusesEntries (map (λ e. (K.tree e.0, V.tree e.1)) m.entries) };
 
-    /// Its message is that of the part without a spelling: a key, a repeated key, or a value. If it
-    /// is that of a key, nothing went out. Nor did it if memory is wanting, unless the values or the
-    /// writer take some.
+    /// Appends the map. Its message is that of the part without a spelling: a key, a repeated key,
+    /// or a value. If it is that of a key, nothing was written. If memory runs out, nothing was
+    /// written either, unless the values or the writer take memory.
     fn serialize<W: Write>(&self, alloc: Global, ser: &mut Serializer<W>) -> WriteResult<(), W>
         ensures written { Writes (spelled_tree (entries_tree
             (map (λ e. (K.tree e.0, V.tree e.1)) self.now.entries)))

@@ -1,4 +1,4 @@
-//! Maps whose keys are texts: the keys are written from where they are, and spelled nowhere else.
+//! Maps whose keys are texts. The keys are written from where they are, and not copied.
 
 ghost use Rattle.std.specs.Prelude.{◌≡◌, Option, IsPermutation, OnOk, IfOk, IfErr, IfSome, IsTrue};
 ghost use Rattle.std.specs.Prelude.{codes, ◌||◌};
@@ -41,13 +41,13 @@ pub(crate) fn write_texts<V: Serialize, W: Write>(
         return Err(EncodeError::OutOfMemory);
     };
     if !keys_rise(&row) {
-        // The keys of a sorted map do rise here; nothing else rests on it.
+        // Never reached, because the sorted keys of a map rise, but nothing relies on that.
         return write_value(alloc, entries, ser);
     }
     write_row(alloc, &row, ser)
 }
 
-/// The entries in key order.
+/// Returns the entries in key order.
 fn list_in_order<V>(
     alloc: Global,
     entries: &BTreeMap<String, V>,
@@ -60,7 +60,7 @@ fn list_in_order<V>(
     Ok(row)
 }
 
-/// The entries as the map has them.
+/// Returns the entries in the map's order.
 fn list_entries<V>(
     alloc: Global,
     entries: &BTreeMap<String, V>,
@@ -79,7 +79,7 @@ fn list_entries<V>(
     Ok(row)
 }
 
-/// Whether each key comes after the one before it.
+/// Returns whether each key comes after the previous one.
 fn keys_rise<V>(row: &[TextEntry<'_, V>]) -> bool
     ensures { IsTrue result → (tree : V → Option Tree) → Rises (text_pairs tree row.now) }
 {

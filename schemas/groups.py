@@ -7,7 +7,7 @@ from schemas.law import MOST_IN_GROUP, field_name, in_parts, may_lack
 from schemas.layout import INSIDE_STRUCT, Group, function, ghost, impl, lines, pairs_of, typed
 
 # The ghost members of a group, in order; those with no rows of their own are as its row's.
-MEMBERS = """OwnState own_state own_unread own_shape behind OwnView own_meaning own_finish Held held shape_before joins Shows shows
+MEMBERS = """OwnState own_state own_unread own_shape following OwnView own_meaning own_finish Held held shape_before joins Shows shows
     finish_before finishes own_refuses""".split()
 
 

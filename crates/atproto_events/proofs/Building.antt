@@ -13,7 +13,7 @@ use Rattle.atproto_events.specs.Pieces.{PieceParts, piece_of, pieces, subtree_pi
 use Rattle.atproto_events.specs.Naming.{NamesRows, NamesOver, NamesBelow, NamesRoot}
 use Rattle.atproto_events.specs.declared.error.UndoError.{UndoError}
 use Rattle.atproto_events.specs.declared.pieces.Piece.{Piece}
-use Rattle.repository_types.specs.declared.repository.Entry.{Entry as Row}
+use Rattle.types_repository.specs.declared.repository.Entry.{Entry as Row}
 
 -- ---- runs of lower pieces
 
@@ -82,13 +82,13 @@ pub rows_end : (n : ℕ) (all ps : List PieceParts) (previous : List ℕ) (rows 
 rows_end n all ps previous rows none h =
     subst (NamesRows (NamesBelow n) n [] all) (append-nil (map tree_of_row (map row_told rows))) (h [] (subst (λ x. NamesRows (NamesBelow n) n previous x []) (sym none) refl))
 
-pub rows_next : (n : ℕ) (all : List PieceParts) (top : PieceParts) (behind below next : List PieceParts) (key previous : List ℕ) (after : Option CidParts) (rows : List Row) (row : Row)
-    → lower_pieces n (top ∷ behind) ≡ [] → top.key ≡ Some key → below ≡ lower_pieces n behind → next ≡ upper_pieces n behind → NamesBelow n below after
+pub rows_next : (n : ℕ) (all : List PieceParts) (top : PieceParts) (following below next : List PieceParts) (key previous : List ℕ) (after : Option CidParts) (rows : List Row) (row : Row)
+    → lower_pieces n (top ∷ following) ≡ [] → top.key ≡ Some key → below ≡ lower_pieces n following → next ≡ upper_pieces n following → NamesBelow n below after
     → tree_of_row (row_told row) ≡ entry_tree previous (leaf_of (key, top.cid)) after
-    → RowsGoOn n all previous (top ∷ behind) rows → RowsGoOn n all key next (rows ++ (row ∷ []))
-rows_next n all top behind below next key previous after rows row tops is lower upper named made h ts more =
-    let here : NamesRows (NamesBelow n) n previous (top ∷ behind) (tree_of_row (row_told row) ∷ ts) =
-    inr (is_top n top behind tops, (key, after, ts, is, subst (λ x. NamesBelow n x after) lower named, rows_skip (NamesBelow n) n key behind ts (subst (λ x. NamesRows (NamesBelow n) n key x ts) upper more), ap (λ t. t ∷ ts) made)) in
+    → RowsGoOn n all previous (top ∷ following) rows → RowsGoOn n all key next (rows ++ (row ∷ []))
+rows_next n all top following below next key previous after rows row tops is lower upper named made h ts more =
+    let here : NamesRows (NamesBelow n) n previous (top ∷ following) (tree_of_row (row_told row) ∷ ts) =
+    inr (is_top n top following tops, (key, after, ts, is, subst (λ x. NamesBelow n x after) lower named, rows_skip (NamesBelow n) n key following ts (subst (λ x. NamesRows (NamesBelow n) n key x ts) upper more), ap (λ t. t ∷ ts) made)) in
     subst (NamesRows (NamesBelow n) n [] all)
     (sym (ap (λ m. m ++ ts) (ap (map tree_of_row) (map-append row_told rows (row ∷ [])) ∙ map-append tree_of_row (map row_told rows) (row_told row ∷ []))
     ∙ append_assoc (map tree_of_row (map row_told rows)) (tree_of_row (row_told row) ∷ []) ts))

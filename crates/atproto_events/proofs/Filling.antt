@@ -18,7 +18,7 @@ use Rattle.atproto_mst.proofs.Descending.{RiseAll, rise_all}
 use Rattle.atproto_mst.proofs.Changing.{none_removed, set_rises, set_keys, unset_rises, unset_keys}
 use Rattle.atproto_events.specs.Pieces.{PieceParts, StandsFor, Fills}
 use Rattle.atproto_events.specs.Doing.{set_record}
-use Rattle.atproto_events.specs.Undone.{with_piece, EndsBefore, BeginsBehind}
+use Rattle.atproto_events.specs.Undone.{with_piece, EndsBefore, BeginsAfter}
 use Rattle.atproto_events.specs.Laws.{StepsUndo}
 
 -- ---- entries with one at a place
@@ -108,13 +108,13 @@ with_fills k (Some v) ps b f = ((k, v) ∷ [], b, (refl, refl), f, refl)
 
 -- ---- the order of keys
 
-behind_at : (k l : List ℕ) (v : CidParts) (a b : List Entry) → AllByRecursion (λ e. Below l e.0) (a ++ ((k, v) ∷ b)) → Below l k
-behind_at k l v [] b h = h.0
-behind_at k l v (e ∷ a) b h = behind_at k l v a b h.1
+after_at : (k l : List ℕ) (v : CidParts) (a b : List Entry) → AllByRecursion (λ e. Below l e.0) (a ++ ((k, v) ∷ b)) → Below l k
+after_at k l v [] b h = h.0
+after_at k l v (e ∷ a) b h = after_at k l v a b h.1
 
 all_before : (k : List ℕ) (v : CidParts) (a b : List Entry) → RiseAll (a ++ ((k, v) ∷ b)) → AllBefore k a
 all_before k v [] b r = tt
-all_before k v (e ∷ a) b r = (behind_at k e.0 v a b r.0, all_before k v a b r.1)
+all_before k v (e ∷ a) b r = (after_at k e.0 v a b r.0, all_before k v a b r.1)
 
 before_more : (k l : List ℕ) (a : List Entry) → Below k l → AllBefore k a → AllBefore l a
 before_more k l [] b h = tt
@@ -153,9 +153,9 @@ ends_before k (p ∷ ps) a f h r =
     let q = subst RiseAll w.4 r in
     subst (AllBefore k) (sym w.4) (before_joined k w.2 ((w.0, w.1) ∷ []) (before_more w.0 k w.2 w.3 (all_before w.0 w.1 w.2 [] q)) (w.3, tt))
 
-begins_behind : (k : List ℕ) (ps : List PieceParts) (b : List Entry) → Fills ps b → BeginsBehind k ps → ComesBefore k b
-begins_behind k [] b f h = subst (ComesBefore k) (sym f) tt
-begins_behind k (p ∷ ps) b (first, more, s, f, e) (l, is, less) =
+begins_after : (k : List ℕ) (ps : List PieceParts) (b : List Entry) → Fills ps b → BeginsAfter k ps → ComesBefore k b
+begins_after k [] b f h = subst (ComesBefore k) (sym f) tt
+begins_after k (p ∷ ps) b (first, more, s, f, e) (l, is, less) =
     let here = subst (λ x. StandsFor p.layer p.cid x first) is s in
     subst (ComesBefore k) (sym (e ∙ ap (λ x. x ++ more) here.1)) less
 
@@ -164,10 +164,10 @@ abbrev IsPlace : List ℕ → List Entry → List Entry → Type 0
 IsPlace k a b = AllBefore k a × ComesBefore k b × Rise b
 
 place_by : (k : List ℕ) (x : Option CidParts) (front rest : List PieceParts) (a b : List Entry) → Fills front a → Fills rest b
-    → (x ≡ None → EndsBefore k front × BeginsBehind k rest) → Rise (a ++ with_entry k x b) → IsPlace k a b
+    → (x ≡ None → EndsBefore k front × BeginsAfter k rest) → Rise (a ++ with_entry k x b) → IsPlace k a b
 place_by k None front rest a b fa fb h r =
     let between = h refl in
-    (ends_before k front a fa between.0 (rise_front a b (rise_all (a ++ b) r)), begins_behind k rest b fb between.1, rise_right a b r)
+    (ends_before k front a fa between.0 (rise_front a b (rise_all (a ++ b) r)), begins_after k rest b fb between.1, rise_right a b r)
 place_by k (Some v) front rest a b fa fb h r =
     let right = rise_right a ((k, v) ∷ b) r in
     (all_before k v a b (rise_all (a ++ ((k, v) ∷ b)) r), right.0, right.1)

@@ -140,11 +140,11 @@ placed_top n top rest le lt none = let layer : top.layer ≡ n = omega (arith, l
 pub lower_at : (n m : ℕ) (ps : List PieceParts) → n ≡ suc m → AreLower n ps → AreLower (suc m) ps
 lower_at n m ps is h = subst (λ k. AreLower k ps) is h
 
-pub whole_rest : (all done : List PieceParts) (top : PieceParts) (behind below next : List PieceParts) → all ≡ done ++ (top ∷ behind) → behind ≡ below ++ next → all ≡ (done ++ (top ∷ [])) ++ (below ++ next)
-whole_rest all done top behind below next is split = is ∙ ap (λ x. done ++ (top ∷ x)) split ∙ sym (append_assoc done (top ∷ []) (below ++ next))
+pub whole_rest : (all done : List PieceParts) (top : PieceParts) (following below next : List PieceParts) → all ≡ done ++ (top ∷ following) → following ≡ below ++ next → all ≡ (done ++ (top ∷ [])) ++ (below ++ next)
+whole_rest all done top following below next is split = is ∙ ap (λ x. done ++ (top ∷ x)) split ∙ sym (append_assoc done (top ∷ []) (below ++ next))
 
-pub first_lower : (n : ℕ) (all done : List PieceParts) (top : PieceParts) (behind : List PieceParts) → AreLower n all → all ≡ done ++ (top ∷ behind) → top.layer < n
-first_lower n all done top behind low is = (lower_rest n done (top ∷ behind) (subst (AreLower n) is low)).0
+pub first_lower : (n : ℕ) (all done : List PieceParts) (top : PieceParts) (following : List PieceParts) → AreLower n all → all ≡ done ++ (top ∷ following) → top.layer < n
+first_lower n all done top following low is = (lower_rest n done (top ∷ following) (subst (AreLower n) is low)).0
 
 pub first_fault : (n : ℕ) (ps : List PieceParts) (e : UndoError) → NodeFault ps e → FirstOrFault n ps e
 first_fault n ps e h = inl h

@@ -10,3 +10,5 @@ mod Building
 mod Opening
 mod Hiding
 mod Losing
+mod Framing
+mod CommitSteps

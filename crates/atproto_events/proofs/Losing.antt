@@ -55,9 +55,9 @@ tree_lost stored root ps (p, at, opened) = node_lost stored (OpensBelow stored (
 
 -- ---- changes undone
 
-lost_behind : (stored : Stored) (key : List ℕ) (value : Option CidParts) (ps : List PieceParts) → AreLost stored (with_piece key value ps) → AreLost stored ps
-lost_behind stored key None ps h = h
-lost_behind stored key (Some v) ps h = h.1
+lost_after : (stored : Stored) (key : List ℕ) (value : Option CidParts) (ps : List PieceParts) → AreLost stored (with_piece key value ps) → AreLost stored ps
+lost_after stored key None ps h = h
+lost_after stored key (Some v) ps h = h.1
 
 lost_with : (stored : Stored) (key : List ℕ) (value : Option CidParts) (ps : List PieceParts) → AreLost stored ps → AreLost stored (with_piece key value ps)
 lost_with stored key None ps h = h
@@ -66,7 +66,7 @@ lost_with stored key (Some v) ps h = (λ none. absurd (cc none), h)
 step_lost : (stored : Stored) (c : Changed) (old new : List PieceParts) → StepsBack c old new → AreLost stored old → AreLost stored new
 step_lost stored c old new s h =
     let parts = lost_apart stored s.front (with_piece c.0 c.1.1 s.rest) (subst (AreLost stored) s.was h) in
-    subst (AreLost stored) (sym s.is) (lost_joined stored s.front (with_piece c.0 c.1.0 s.rest) parts.0 (lost_with stored c.0 c.1.0 s.rest (lost_behind stored c.0 c.1.1 s.rest parts.1)))
+    subst (AreLost stored) (sym s.is) (lost_joined stored s.front (with_piece c.0 c.1.0 s.rest) parts.0 (lost_with stored c.0 c.1.0 s.rest (lost_after stored c.0 c.1.1 s.rest parts.1)))
 
 steps_lost : (stored : Stored) (cs : List Changed) (old new : List PieceParts) → StepsBackAll cs old new → AreLost stored old → AreLost stored new
 steps_lost stored [] old new s h = subst (AreLost stored) (sym s) h
@@ -114,7 +114,7 @@ unnamed_lost stored name ps lost (inr (n, is)) = lost_there stored [] n name [] 
 pub missing_is_lost : MissingIsLost
 missing_is_lost stored root cs name (inl h) = root_lost stored root name h
 missing_is_lost stored root cs name (inr (ps, opened, inl h)) =
-    let lost = steps_lost stored h.behind ps h.now h.undone (tree_lost stored root ps opened) in
+    let lost = steps_lost stored h.following ps h.now h.undone (tree_lost stored root ps opened) in
     lost_there stored h.fault.front h.fault.layer name h.fault.rest h.now h.fault.is lost
 missing_is_lost stored root cs name (inr (ps, opened, inr (qs, steps, h))) =
     unnamed_lost stored name qs (steps_lost stored cs ps qs steps (tree_lost stored root ps opened)) h

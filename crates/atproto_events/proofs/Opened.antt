@@ -17,7 +17,7 @@ use Rattle.atproto_mst.proofs.Parts.{row_at, rows_over, parts_over, key_again, I
 use Rattle.atproto_mst.proofs.Canonical.{entries_under, AreBelow, AreLeaves, lower_are_leaves, lower_below, next_leaves, stored_apart, each_leaf, leaves_counted}
 use Rattle.atproto_mst.proofs.Leading.{held, first_held, held_agrees}
 use Rattle.ipld_links.specs.Sets.{Among}
-use Rattle.dagcbor_car.specs.Car.{Section}
+use Rattle.files_car.specs.Car.{Section}
 use Rattle.atproto_events.specs.Pieces.{PieceParts, subtree_piece, Fills, OpensLink, OpensRows, OpensNode, OpensBelow}
 use Rattle.atproto_events.specs.Laws.{OpenedFill}
 use Rattle.atproto_events.proofs.Filling.{fills_joined}
@@ -63,8 +63,8 @@ same_parts : (stored other : Stored) → Agree stored other → (n : ℕ) (name 
     → block_name (spelling (node n es)) ≡ name → p ≡ parts_over (subtree n) n es
 unfolding nodes
 same_parts stored other agree n name p es l there at h =
-    let behind = (stored_apart other (subtree_nodes n (lower_run n es)) (nodes_between (subtree_nodes n) n es ++ (node_section (node n es) ∷ [])) there).1 in
-    let last = (stored_apart other (nodes_between (subtree_nodes n) n es) (node_section (node n es) ∷ []) behind).1.0 in
+    let following = (stored_apart other (subtree_nodes n (lower_run n es)) (nodes_between (subtree_nodes n) n es ++ (node_section (node n es) ∷ [])) there).1 in
+    let last = (stored_apart other (nodes_between (subtree_nodes n) n es) (node_section (node n es) ∷ []) following).1.0 in
     agree name p (parts_over (subtree n) n es) at
     (subst (λ q. IsNodeAt other q (parts_over (subtree n) n es)) h record { block = spelling (node n es); is = last; named = refl; node = node_is_node n es l.0 l.1 })
 

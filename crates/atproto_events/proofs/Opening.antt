@@ -14,7 +14,7 @@ use Rattle.atproto_events.specs.declared.pieces.Piece.{Piece}
 use Rattle.atproto_events.proofs.Places.{piece_at}
 use Rattle.atproto_events.specs.declared.error.UndoError.{UndoError}
 use Rattle.atproto_events.specs.declared.error.UndoError.TheVariants as error
-use Rattle.repository_types.specs.declared.repository.Entry.{Entry as Row}
+use Rattle.types_repository.specs.declared.repository.Entry.{Entry as Row}
 
 -- in a node of layer n, the rows that remain continue the pieces of all rows
 abbrev pub GoesOn : (CidParts → List PieceParts → Type 0) → ℕ → Option CidParts → List NodeRow → List PieceParts → List ℕ → List NodeRow → List PieceParts → Type 0
@@ -85,11 +85,11 @@ module _ (F : CidParts → List PieceParts → Type 0) (S : List PieceParts → 
   stops_at_row key r rest now e (inl memory) h = inl memory
   stops_at_row key r rest now e (inr unfit) h = inr (h e (inl unfit))
 
-  pub stops_behind_row : (key next : List ℕ) (r : NodeRow) (rest : List NodeRow) (now wider : List PieceParts) (e : UndoError) → next ≡ key_of_row key r
+  pub stops_after_row : (key next : List ℕ) (r : NodeRow) (rest : List NodeRow) (now wider : List PieceParts) (e : UndoError) → next ≡ key_of_row key r
       → wider ≡ now ++ (record { layer = n; key = Some next; cid = r.value } ∷ []) → (e ≡ error.OutOfMemory) ⊎ LinkStops S wider r.after e
       → StopsOn now key (r ∷ rest) → (e ≡ error.OutOfMemory) ⊎ NodeStops F S n old p e
-  stops_behind_row key next r rest now wider e made pushed (inl memory) h = inl memory
-  stops_behind_row key next r rest now wider e made pushed (inr stop) h =
+  stops_after_row key next r rest now wider e made pushed (inl memory) h = inl memory
+  stops_after_row key next r rest now wider e made pushed (inr stop) h =
       inr (h e (inr (inl (subst (λ k. LinkStops S (now ++ (record { layer = n; key = Some k; cid = r.value } ∷ [])) r.after e) made (subst (λ x. LinkStops S x r.after e) pushed stop)))))
 
 pub stops_left : (F : CidParts → List PieceParts → Type 0) (S : List PieceParts → CidParts → UndoError → Type 0) (n : ℕ) (p : NodeParts) (old : List PieceParts) (e : UndoError)
@@ -206,9 +206,9 @@ last_found (suc i) (p ∷ ps) d k lt is key none = key_last k (piece_of p) (piec
 pub none_found : (i : ℕ) (ps : List Piece) (d : Piece) → i < length ps → get_or ps i d ≡ d → (piece_of d).key ≡ None → last_key (drop (suc i) (pieces ps)) ≡ None → last_key (drop i (pieces ps)) ≡ None
 none_found i ps d lt is key none = ap last_key (piece_at i ps d lt is) ∙ no_key_last (piece_of d) (drop (suc i) (pieces ps)) key ∙ none
 
-pub none_behind_all : (ps : List Piece) → last_key (drop (length ps) (pieces ps)) ≡ None
-none_behind_all [] = refl
-none_behind_all (p ∷ ps) = none_behind_all ps
+pub none_after_all : (ps : List Piece) → last_key (drop (length ps) (pieces ps)) ≡ None
+none_after_all [] = refl
+none_after_all (p ∷ ps) = none_after_all ps
 
 pub no_rows_left : (rows : List Row) (i : ℕ) → length rows ≤ i → map row_told (drop i rows) ≡ []
 no_rows_left [] zero le = refl

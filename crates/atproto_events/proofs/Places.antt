@@ -12,7 +12,7 @@ use Rattle.std.proofs.lemmas.Map.Lookups.{exact_bytes}
 use Rattle.ipld_tree.specs.Cid.{CidParts}
 use Rattle.atproto_mst.specs.Keys.{key_layer}
 use Rattle.atproto_events.specs.Pieces.{PieceParts, piece_of, pieces, entry_piece}
-use Rattle.atproto_events.specs.Undone.{comes_before, from_entry, EndsBefore, BeginsBehind, IsNotBefore, IsOfKey, IsPlaced, ArePlaced}
+use Rattle.atproto_events.specs.Undone.{comes_before, from_entry, EndsBefore, BeginsAfter, IsNotBefore, IsOfKey, IsPlaced, ArePlaced}
 use Rattle.atproto_events.specs.declared.pieces.Piece.{Piece}
 
 -- ---- one piece
@@ -99,17 +99,17 @@ not_less k key Less is h other = absurd (cc h)
 not_less k key Equal is h other = absurd (other (exact_bytes k key is))
 not_less k key Greater is h other = nat_list_cmp_total.antisymm key k ∙ ap ordering_reverse is
 
-behind_key : (key : List ℕ) (o : Option (List ℕ)) → is_some o ≡ true → comes_before key o ≡ false → o ≢ Some key → (k : List ℕ) × (o ≡ Some k) × (slice_cmp nat_cmp key k ≡ Less)
-behind_key key None h n other = absurd (cc h)
-behind_key key (Some k) h n other = (k, refl, not_less k key (slice_cmp nat_cmp k key) refl n (λ e. other (ap Some e)))
+after_key : (key : List ℕ) (o : Option (List ℕ)) → is_some o ≡ true → comes_before key o ≡ false → o ≢ Some key → (k : List ℕ) × (o ≡ Some k) × (slice_cmp nat_cmp key k ≡ Less)
+after_key key None h n other = absurd (cc h)
+after_key key (Some k) h n other = (k, refl, not_less k key (slice_cmp nat_cmp k key) refl n (λ e. other (ap Some e)))
 
 -- a key that would come first is absent
-begins : (key : List ℕ) (xs ys : List PieceParts) → ys ≡ from_entry xs → IsNotBefore key ys → ¬ IsOfKey key 0 ys → BeginsBehind key ys
-begins key [] ys e n other = subst (BeginsBehind key) (sym e) tt
+begins : (key : List ℕ) (xs ys : List PieceParts) → ys ≡ from_entry xs → IsNotBefore key ys → ¬ IsOfKey key 0 ys → BeginsAfter key ys
+begins key [] ys e n other = subst (BeginsAfter key) (sym e) tt
 begins key (x ∷ xs) ys e n other = by (is_some x.key) refl e (λ q. begins key xs ys q n other)
   where
-    by : (b : Bool) → is_some x.key ≡ b → ys ≡ (if b then x ∷ xs else from_entry xs) → (ys ≡ from_entry xs → BeginsBehind key ys) → BeginsBehind key ys
-    by true some q f = subst (BeginsBehind key) (sym q) (behind_key key x.key some (subst (IsNotBefore key) q n) (λ k. other (subst (IsOfKey key 0) (sym q) k)))
+    by : (b : Bool) → is_some x.key ≡ b → ys ≡ (if b then x ∷ xs else from_entry xs) → (ys ≡ from_entry xs → BeginsAfter key ys) → BeginsAfter key ys
+    by true some q f = subst (BeginsAfter key) (sym q) (after_key key x.key some (subst (IsNotBefore key) q n) (λ k. other (subst (IsOfKey key 0) (sym q) k)))
     by false some q f = f q
 
 of_key_there : (key : List ℕ) (i : ℕ) (xs : List PieceParts) → IsOfKey key 0 (drop i xs) → IsOfKey key i xs
@@ -117,8 +117,8 @@ of_key_there key zero xs h = h
 of_key_there key (suc i) [] h = absurd h
 of_key_there key (suc i) (x ∷ xs) h = of_key_there key i xs h
 
-pub begins_behind : (key : List ℕ) (m a : ℕ) (xs : List PieceParts) → drop a xs ≡ from_entry (drop m xs) → IsNotBefore key (from_entry (drop m xs)) → ¬ IsOfKey key a xs → BeginsBehind key (drop a xs)
-begins_behind key m a xs e n other = begins key (drop m xs) (drop a xs) e (subst (IsNotBefore key) (sym e) n) (λ h. other (of_key_there key a xs h))
+pub begins_after : (key : List ℕ) (m a : ℕ) (xs : List PieceParts) → drop a xs ≡ from_entry (drop m xs) → IsNotBefore key (from_entry (drop m xs)) → ¬ IsOfKey key a xs → BeginsAfter key (drop a xs)
+begins_after key m a xs e n other = begins key (drop m xs) (drop a xs) e (subst (IsNotBefore key) (sym e) n) (λ h. other (of_key_there key a xs h))
 
 -- ---- a piece that is set, taken away or put in
 

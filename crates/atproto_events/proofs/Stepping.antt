@@ -6,7 +6,7 @@ use Rattle.ipld_tree.specs.Cid.{CidParts}
 use Rattle.atproto_mst.specs.Keys.{IsKey}
 use Rattle.atproto_mst.specs.Changes.{Changed}
 use Rattle.atproto_events.specs.Pieces.{PieceParts, piece_of, pieces, entry_piece}
-use Rattle.atproto_events.specs.Undone.{with_piece, from_entry, EndsBefore, BeginsBehind, IsOfKey, ArePlaced, StepsBack, HasRecord, HidesKey}
+use Rattle.atproto_events.specs.Undone.{with_piece, from_entry, EndsBefore, BeginsAfter, IsOfKey, ArePlaced, StepsBack, HasRecord, HidesKey}
 use Rattle.atproto_events.specs.declared.pieces.Piece.{Piece}
 use Rattle.atproto_events.proofs.Places.{piece_at, pieces_set, pieces_removed, pieces_inserted, whole_again, placed_there, entry_of, entry_first, subtree_first}
 
@@ -77,7 +77,7 @@ other_record key i ps d after is k placed other = (
 )
 
 -- nothing changes if there was no record and there is no record
-pub left_so : (c : Changed) (i : ℕ) (xs : List PieceParts) → EndsBefore c.0 (take i xs) → BeginsBehind c.0 (drop i xs) → c.1.1 ≡ None → c.1.0 ≡ None → StepsBack c xs xs
+pub left_so : (c : Changed) (i : ℕ) (xs : List PieceParts) → EndsBefore c.0 (take i xs) → BeginsAfter c.0 (drop i xs) → c.1.1 ≡ None → c.1.0 ≡ None → StepsBack c xs xs
 left_so c i xs front rest new_is old_is = record {
   front = take i xs;
   rest = drop i xs;
@@ -88,7 +88,7 @@ left_so c i xs front rest new_is old_is = record {
 }
 
 -- it is put in
-pub put_in : (c : Changed) (i : ℕ) (ps : List Piece) (x : Piece) (old : CidParts) → i ≤ length ps → EndsBefore c.0 (take i (pieces ps)) → BeginsBehind c.0 (drop i (pieces ps))
+pub put_in : (c : Changed) (i : ℕ) (ps : List Piece) (x : Piece) (old : CidParts) → i ≤ length ps → EndsBefore c.0 (take i (pieces ps)) → BeginsAfter c.0 (drop i (pieces ps))
     → c.1.1 ≡ None → c.1.0 ≡ Some old → IsKey c.0 → piece_of x ≡ entry_piece c.0 old → StepsBack c (pieces ps) (pieces (insert ps i x))
 put_in c i ps x old le front rest new_is old_is key made = record {
   front = take i (pieces ps);
@@ -102,7 +102,7 @@ put_in c i ps x old le front rest new_is old_is key made = record {
 }
 
 -- no record is there
-pub no_record : (key : List ℕ) (i : ℕ) (xs : List PieceParts) (after : Option CidParts) → EndsBefore key (take i xs) → BeginsBehind key (drop i xs) → after ≢ None
+pub no_record : (key : List ℕ) (i : ℕ) (xs : List PieceParts) (after : Option CidParts) → EndsBefore key (take i xs) → BeginsAfter key (drop i xs) → after ≢ None
     → (value : Option CidParts) × HasRecord key value xs × (value ≢ after)
 no_record key i xs after front rest other = (
   None,
@@ -111,14 +111,14 @@ no_record key i xs after front rest other = (
 )
 
 -- a subtree is at this place
-hides : (key : List ℕ) (m : ℕ) (xs : List PieceParts) (p : PieceParts) (ys : List PieceParts) → EndsBefore key (take m xs) → drop m xs ≡ p ∷ ys → p.key ≡ None → BeginsBehind key (from_entry ys) → HidesKey key p.cid xs
-hides key m xs p ys front split none behind = record {
+hides : (key : List ℕ) (m : ℕ) (xs : List PieceParts) (p : PieceParts) (ys : List PieceParts) → EndsBefore key (take m xs) → drop m xs ≡ p ∷ ys → p.key ≡ None → BeginsAfter key (from_entry ys) → HidesKey key p.cid xs
+hides key m xs p ys front split none following = record {
   front = take m xs;
   layer = p.layer;
   rest = ys;
   is = whole_again m xs ∙ ap (λ x. take m xs ++ x) split ∙ ap (λ k. take m xs ++ (record { layer = p.layer; key = k; cid = p.cid } ∷ ys)) none;
   before = front;
-  behind = behind;
+  following = following;
 }
 
 no_entry : (o : Option (List ℕ)) → is_some o ≡ false → o ≡ None
@@ -129,18 +129,18 @@ longer : (m a : ℕ) (xs : List PieceParts) → m < a → a ≤ length xs → dr
 longer m a xs lt le e = absurd (omega (arith, lt, le, ap length e, length-drop a xs, length-drop m xs))
 
 hidden_by : (key : List ℕ) (m a : ℕ) (ps : List Piece) (d : Piece) (b : Bool) → m < a → a ≤ length ps → get_or ps m d ≡ d → is_some (piece_of d).key ≡ b → EndsBefore key (take m (pieces ps))
-    → drop a (pieces ps) ≡ from_entry (drop m (pieces ps)) → BeginsBehind key (drop a (pieces ps)) → HidesKey key d.cid (pieces ps)
-hidden_by key m a ps d true lt le is some front e behind =
+    → drop a (pieces ps) ≡ from_entry (drop m (pieces ps)) → BeginsAfter key (drop a (pieces ps)) → HidesKey key d.cid (pieces ps)
+hidden_by key m a ps d true lt le is some front e following =
     let split = piece_at m ps d (omega (arith, lt, le)) is in
     absurd (longer m a (pieces ps) lt (omega (arith, le, length-map ps piece_of)) (e ∙ ap from_entry split ∙ entry_first (piece_of d) (drop (suc m) (pieces ps)) some ∙ sym split))
-hidden_by key m a ps d false lt le is some front e behind =
+hidden_by key m a ps d false lt le is some front e following =
     let split = piece_at m ps d (omega (arith, lt, le)) is in
     hides key m (pieces ps) (piece_of d) (drop (suc m) (pieces ps)) front split (no_entry (piece_of d).key some)
-    (subst (BeginsBehind key) (e ∙ ap from_entry split ∙ subtree_first (piece_of d) (drop (suc m) (pieces ps)) some) behind)
+    (subst (BeginsAfter key) (e ∙ ap from_entry split ∙ subtree_first (piece_of d) (drop (suc m) (pieces ps)) some) following)
 
 pub hidden : (key : List ℕ) (m a : ℕ) (ps : List Piece) (d : Piece) → m < a → a ≤ length ps → get_or ps m d ≡ d → EndsBefore key (take m (pieces ps))
-    → drop a (pieces ps) ≡ from_entry (drop m (pieces ps)) → BeginsBehind key (drop a (pieces ps)) → HidesKey key d.cid (pieces ps)
-hidden key m a ps d lt le is front e behind = hidden_by key m a ps d (is_some (piece_of d).key) lt le is refl front e behind
+    → drop a (pieces ps) ≡ from_entry (drop m (pieces ps)) → BeginsAfter key (drop a (pieces ps)) → HidesKey key d.cid (pieces ps)
+hidden key m a ps d lt le is front e following = hidden_by key m a ps d (is_some (piece_of d).key) lt le is refl front e following
 
 pub of_key_at : (key : List ℕ) (i : ℕ) (ps : List Piece) (d : Piece) → get_or ps i d ≡ d → i < length ps → (piece_of d).key ≡ Some key → IsOfKey key i (pieces ps)
 of_key_at key i [] d is lt k = absurd (omega (arith, lt))

@@ -22,9 +22,9 @@ pub placed_joined : (xs ys : List PieceParts) → ArePlaced xs → ArePlaced ys 
 placed_joined [] ys h k = k
 placed_joined (x ∷ xs) ys h k = (h.0, placed_joined xs ys h.1 k)
 
-placed_behind : (key : List ℕ) (value : Option CidParts) (ps : List PieceParts) → ArePlaced (with_piece key value ps) → ArePlaced ps
-placed_behind key None ps h = h
-placed_behind key (Some v) ps h = h.1
+placed_after : (key : List ℕ) (value : Option CidParts) (ps : List PieceParts) → ArePlaced (with_piece key value ps) → ArePlaced ps
+placed_after key None ps h = h
+placed_after key (Some v) ps h = h.1
 
 placed_with : (key : List ℕ) (value : Option CidParts) (ps : List PieceParts) → ArePlaced ps → ArePlaced (with_piece key value ps)
 placed_with key None ps h = h
@@ -33,7 +33,7 @@ placed_with key (Some v) ps h = (refl, h)
 pub step_placed : (c : Changed) (old new : List PieceParts) → StepsBack c old new → ArePlaced old → ArePlaced new
 step_placed c old new s h =
     let parts = placed_apart s.front (with_piece c.0 c.1.1 s.rest) (subst ArePlaced s.was h) in
-    subst ArePlaced (sym s.is) (placed_joined s.front (with_piece c.0 c.1.0 s.rest) parts.0 (placed_with c.0 c.1.0 s.rest (placed_behind c.0 c.1.1 s.rest parts.1)))
+    subst ArePlaced (sym s.is) (placed_joined s.front (with_piece c.0 c.1.0 s.rest) parts.0 (placed_with c.0 c.1.0 s.rest (placed_after c.0 c.1.1 s.rest parts.1)))
 
 -- ---- one more
 
@@ -55,7 +55,7 @@ pub stops_here : (done : List Change) (i j : ℕ) (d : Change) (ps mid : List Pi
 stops_here done i j d ps mid e next lt is all fault = record {
   before = changes (take i done);
   this = change_of d;
-  behind = changes (drop (suc i) done);
+  following = changes (drop (suc i) done);
   is = changes_split done i ∙ ap (λ x. changes (take i done) ++ x) (change_at done i d lt is);
   now = mid;
   undone = subst (λ k. StepsBackAll (changes (drop k done)) ps mid) next all;

@@ -5,3 +5,10 @@ pub mod Undone
 pub mod Naming
 pub mod Refusing
 pub mod Laws
+pub mod Blocks
+pub mod Kinds
+pub mod Bodies
+pub mod Frames
+pub mod Operations
+pub mod Roots
+pub mod Verifying

@@ -33,9 +33,9 @@ last_key [] = None
 last_key (p ∷ ps) = if is_some (last_key ps) then last_key ps else p.key
 
 -- the key comes after the other key, if there is one
-abbrev pub comes_behind : List ℕ → Option (List ℕ) → Bool
-comes_behind key None = true
-comes_behind key (Some other) = is_lt (slice_cmp nat_cmp other key)
+abbrev pub comes_after : List ℕ → Option (List ℕ) → Bool
+comes_after key None = true
+comes_after key (Some other) = is_lt (slice_cmp nat_cmp other key)
 
 -- one of the pieces is the subtree of this name, not opened
 abbrev pub HoldsSubtree : CidParts → List PieceParts → Type 0
@@ -52,7 +52,7 @@ AreHeld lost ps = (q : CidParts) → Among q (members lost) → HoldsSubtree q p
 -- key is not valid or is of another layer, or its key does not come after the last key.
 abbrev pub RowUnfit : ℕ → List PieceParts → List ℕ → NodeRow → Type 0
 RowUnfit n before previous r = (length previous < r.shared) ⊎ ((¬ IsKey (key_of_row previous r))
-    ⊎ ((key_layer (key_of_row previous r) ≢ n) ⊎ (comes_behind (key_of_row previous r) (last_key before) ≡ false)))
+    ⊎ ((key_layer (key_of_row previous r) ≢ n) ⊎ (comes_after (key_of_row previous r) (last_key before) ≡ false)))
 
 -- why opening a link stops: a fault in the subtree under it
 abbrev pub LinkStops : (List PieceParts → CidParts → UndoError → Type 0) → List PieceParts → Option CidParts → UndoError → Type 0

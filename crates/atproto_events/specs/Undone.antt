@@ -23,9 +23,9 @@ EndsBefore key (p ∷ []) = (k : List ℕ) × (p.key ≡ Some k) × (slice_cmp n
 EndsBefore key (p ∷ (q ∷ ps)) = EndsBefore key (q ∷ ps)
 
 -- the first piece is an entry with a greater key, or there are no pieces
-abbrev pub BeginsBehind : List ℕ → List PieceParts → Type 0
-BeginsBehind key [] = ⊤
-BeginsBehind key (p ∷ ps) = (k : List ℕ) × (p.key ≡ Some k) × (slice_cmp nat_cmp key k ≡ Less)
+abbrev pub BeginsAfter : List ℕ → List PieceParts → Type 0
+BeginsAfter key [] = ⊤
+BeginsAfter key (p ∷ ps) = (k : List ℕ) × (p.key ≡ Some k) × (slice_cmp nat_cmp key k ≡ Less)
 
 -- the key's record is that after the change (if none, it is absent), and then that before
 pub record StepsBack (c : Changed) (old new : List PieceParts) : Type 0 where
@@ -33,7 +33,7 @@ pub record StepsBack (c : Changed) (old new : List PieceParts) : Type 0 where
   pub rest : List PieceParts
   pub was : old ≡ front ++ with_piece c.0 c.1.1 rest
   pub is : new ≡ front ++ with_piece c.0 c.1.0 rest
-  pub between : c.1.1 ≡ None → EndsBefore c.0 front × BeginsBehind c.0 rest
+  pub between : c.1.1 ≡ None → EndsBefore c.0 front × BeginsAfter c.0 rest
   pub key : c.1.0 ≢ None → c.1.1 ≡ None → IsKey c.0
 
 -- the changes are undone on the pieces, the last first
@@ -77,7 +77,7 @@ pub record HasRecord (key : List ℕ) (value : Option CidParts) (ps : List Piece
   pub front : List PieceParts
   pub rest : List PieceParts
   pub is : ps ≡ front ++ with_piece key value rest
-  pub between : value ≡ None → EndsBefore key front × BeginsBehind key rest
+  pub between : value ≡ None → EndsBefore key front × BeginsAfter key rest
 
 -- the key could only be in a subtree that was not opened, between the entries around it
 pub record HidesKey (key : List ℕ) (name : CidParts) (ps : List PieceParts) : Type 0 where
@@ -86,7 +86,7 @@ pub record HidesKey (key : List ℕ) (name : CidParts) (ps : List PieceParts) : 
   pub rest : List PieceParts
   pub is : ps ≡ front ++ (subtree_piece layer name ∷ rest)
   pub before : EndsBefore key front
-  pub behind : BeginsBehind key (from_entry rest)
+  pub following : BeginsAfter key (from_entry rest)
 
 -- Out of memory, to restore a deleted entry; the subtree that may have the key is not stored; the
 -- key is not valid; or the key does not have the record after the change.
@@ -101,8 +101,8 @@ StepFault c ps _ = ⊥
 pub record StepsFault (cs : List Changed) (ps : List PieceParts) (e : UndoError) : Type 0 where
   pub before : List Changed
   pub this : Changed
-  pub behind : List Changed
-  pub is : cs ≡ before ++ (this ∷ behind)
+  pub following : List Changed
+  pub is : cs ≡ before ++ (this ∷ following)
   pub now : List PieceParts
-  pub undone : StepsBackAll behind ps now
+  pub undone : StepsBackAll following ps now
   pub fault : StepFault this now e

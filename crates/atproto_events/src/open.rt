@@ -12,7 +12,7 @@ ghost use Rattle.atproto_events.specs.Pieces.{PieceParts, subtree_piece, pieces,
 ghost use Rattle.atproto_events.specs.Pieces.{OpensBelow, OpensNode, OpensTree};
 ghost use Rattle.atproto_events.specs.Opening.{UnreadNode, RowUnfit, LinkStops, NodeStops};
 ghost use Rattle.atproto_events.specs.Opening.{StopsBelow, TreeFault};
-ghost use Rattle.atproto_events.specs.Opening.{last_key, comes_behind, HoldsSubtree, AreHeld};
+ghost use Rattle.atproto_events.specs.Opening.{last_key, comes_after, HoldsSubtree, AreHeld};
 ghost use Rattle.atproto_events.specs.declared.error.UndoError.TheVariants.{OutOfMemory, OtherTree};
 
 use crate::error::UndoError;
@@ -22,9 +22,9 @@ use dagcbor_core::DecodeError;
 use dagcbor_read::from_slice;
 use ipld_links::{CidSet, name_of_block, stored_bytes};
 use ipld_tree::Cid;
-use repository_types::{Entry as Row, Node};
 use std::alloc::Global;
 use std::collections::BTreeMap;
+use types_repository::{Entry as Row, Node};
 
 /// The greatest length of a key, in bytes.
 pub(crate) const LONGEST_KEY: usize = 1024;
@@ -241,7 +241,7 @@ fn push_row(
 /// Returns whether the last entry, if there is one, comes before the key. One of any two adjacent
 /// pieces is an entry.
 fn comes_last(found: &[Piece], key: &[u8]) -> bool
-    ensures { result ≡ comes_behind key.now (last_key (pieces found.now)) }
+    ensures { result ≡ comes_after key.now (last_key (pieces found.now)) }
 {
     let mut at = found.len();
     while at > 0 {

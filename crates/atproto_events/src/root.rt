@@ -19,8 +19,8 @@ use crate::pieces::{Piece, split_lower, top_of};
 use dagcbor_write::to_vec;
 use ipld_links::name_of_block;
 use ipld_tree::{Bytes, Cid};
-use repository_types::{Entry, Node};
 use std::alloc::{AllocError, Global};
+use types_repository::{Entry, Node};
 
 /// Returns the root CID of the tree of the entries that the pieces stand for. Refused if it depends
 /// on the content of a subtree that is not stored.
@@ -89,11 +89,11 @@ fn rows_of(alloc: Global, all: &[Piece], layer: u8) -> Result<Vec<Entry>, UndoEr
     let mut rows = Vec::new(alloc);
     let mut previous: &[u8] = &[];
     let mut rest = all;
-    while let Some((top, behind)) = rest.split_first() {
+    while let Some((top, following)) = rest.split_first() {
         let Some(key) = &top.key else {
             return Err(UndoError::MissingNode(top.cid));
         };
-        let (below, next) = split_lower(behind, layer);
+        let (below, next) = split_lower(following, layer);
         rows.reserve(1)?;
         let after = subtree_of(alloc, below, layer)?;
         let row = row_of(alloc, previous, key, top.cid, after)?;

@@ -5,7 +5,7 @@ ghost use Rattle.std.specs.Prelude.{MatchBool};
 ghost use Rattle.atproto_mst.specs.Changes.{change_of};
 ghost use Rattle.atproto_events.specs.Pieces.{pieces, piece_of, entry_piece};
 ghost use Rattle.atproto_events.specs.Undone.{StepsBack, StepFault, ArePlaced};
-ghost use Rattle.atproto_events.specs.Undone.{IsOfKey, EndsBefore, BeginsBehind};
+ghost use Rattle.atproto_events.specs.Undone.{IsOfKey, EndsBefore, BeginsAfter};
 ghost use Rattle.atproto_events.specs.declared.error.UndoError.TheVariants.{OutOfMemory};
 
 use crate::error::UndoError;
@@ -85,7 +85,7 @@ fn undo_absent(
 ) -> Result<(), UndoError>
     requires bound { at ≤ length all.old.items }
     requires front { EndsBefore change.now.key.items (take at (pieces all.old.items)) }
-    requires rest { BeginsBehind change.now.key.items (drop at (pieces all.old.items)) }
+    requires rest { BeginsAfter change.now.key.items (drop at (pieces all.old.items)) }
     ensures undone { OnOk result
         (StepsBack (change_of change.now) (pieces all.old.items) (pieces all.new.items)) }
     ensures refused { IfErr result (StepFault (change_of change.now) (pieces all.old.items)) }

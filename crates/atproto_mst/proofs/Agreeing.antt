@@ -25,13 +25,13 @@ rows_agree : (C : Type 0) (V W : CidParts → List Entry → Type 0) → Agree C
 rows_agree C V W same [] previous es fs v w = inl (v ∙ sym w)
 rows_agree C V W same (r ∷ rs) previous es fs (vs, (vb, vm, vl, vr, ve)) (ws, (wb, wm, wl, wr, we)) =
     both (links_agree C V W same r.after vb wb vl wl) (λ first. both (rows_agree C V W same rs (key_of_row previous r) vm wm vr wr) (λ more.
-    inl (ve ∙ ap₂ (λ below behind. (key_of_row previous r, r.value) ∷ (below ++ behind)) first more ∙ sym we)))
+    inl (ve ∙ ap₂ (λ below following. (key_of_row previous r, r.value) ∷ (below ++ following)) first more ∙ sym we)))
 
 node_agrees : (C : Type 0) (V W : CidParts → List Entry → Type 0) → Agree C V W → (p : NodeParts) (es fs : List Entry)
     → WalksNode V p es → WalksNode W p fs → (es ≡ fs) ⊎ C
 node_agrees C V W same p es fs (vb, vm, vl, vr, ve) (wb, wm, wl, wr, we) =
     both (links_agree C V W same p.left vb wb vl wl) (λ first. both (rows_agree C V W same p.rows [] vm wm vr wr) (λ more.
-    inl (ve ∙ ap₂ (λ below behind. below ++ behind) first more ∙ sym we)))
+    inl (ve ∙ ap₂ (λ below following. below ++ following) first more ∙ sym we)))
 
 pub walks_agree : (C : Type 0) (stored others : Stored) → ((name : CidParts) (p q : NodeParts) → IsNodeAt stored name p → IsNodeAt others name q → (p ≡ q) ⊎ C)
     → (m n : ℕ) (name : CidParts) (es fs : List Entry) → WalksTree m stored name es → WalksTree n others name fs → (es ≡ fs) ⊎ C

@@ -9,14 +9,14 @@ use Rattle.ipld_tree.specs.Cid.{CidParts}
 use Rattle.ipld_tree.specs.Tree.{Tree}
 use Rattle.ipld_tree.specs.Spelling.{spelling}
 use Rattle.ipld_links.specs.Names.{block_name}
-use Rattle.dagcbor_car.specs.Car.{Section}
+use Rattle.files_car.specs.Car.{Section}
 use Rattle.atproto_mst.specs.Trees.{Leaf, lower_run, row_tree, entry_tree, entry_trees, node_map, node_section, subtree, node, subtree_nodes, nodes, nodes_between}
 use Rattle.atproto_mst.specs.Nodes.{tree_of_row, row_told}
 use Rattle.atproto_mst.specs.Placed.{told, all_told, upper_rest}
 use Rattle.atproto_mst.specs.Sinks.{HandsOver, HandsOverFirst, RefusesOne}
 use Rattle.atproto_mst.specs.declared.error.MstError.{MstError}
 use Rattle.atproto_mst.specs.declared.leaves.Placed.{Placed}
-use Rattle.repository_types.specs.declared.repository.Entry.{Entry as Row}
+use Rattle.types_repository.specs.declared.repository.Entry.{Entry as Row}
 use Rattle.atproto_mst.proofs.Runs.{lower_taken, upper_dropped, upper_tops, entries_skip, nodes_skip, entries_next, nodes_next}
 use Rattle.atproto_mst.proofs.Handing.{takes_none, takes_then, refuses_within, first_within}
 

@@ -180,9 +180,9 @@ unset_other key (e ∷ es) k not = by (unset_other key es k not) (bytes_eq e.0 k
 
 -- ---- the order of changed entries
 
-set_behind : (k key : List ℕ) (value : CidParts) (es : List Entry) → Below k key → ComesBefore k es → ComesBefore k (set_entry key value es)
-set_behind k key value [] b h = b
-set_behind k key value (e ∷ es) b h = by (slice_cmp nat_cmp key e.0)
+set_after : (k key : List ℕ) (value : CidParts) (es : List Entry) → Below k key → ComesBefore k es → ComesBefore k (set_entry key value es)
+set_after k key value [] b h = b
+set_after k key value (e ∷ es) b h = by (slice_cmp nat_cmp key e.0)
   where
     by : (o : Ordering) → ComesBefore k (by_order o ((key, value) ∷ (e ∷ es)) ((key, value) ∷ es) (e ∷ set_entry key value es))
     by Less = b
@@ -196,7 +196,7 @@ set_rises key value (e ∷ es) r = by (set_rises key value es r.1) (slice_cmp na
     by : Rise (set_entry key value es) → (o : Ordering) → slice_cmp nat_cmp key e.0 ≡ o → Rise (by_order o ((key, value) ∷ (e ∷ es)) ((key, value) ∷ es) (e ∷ set_entry key value es))
     by more Less o = (o, r)
     by more Equal o = (subst (λ k. ComesBefore k es) (sym (exact_bytes key e.0 o)) r.0, r.1)
-    by more Greater o = (set_behind e.0 key value es (below_turned key e.0 o) r.0, more)
+    by more Greater o = (set_after e.0 key value es (below_turned key e.0 o) r.0, more)
 
 pub set_keys : (key : List ℕ) (value : CidParts) (es : List Entry) → IsKey key → HaveKeys es → HaveKeys (set_entry key value es)
 set_keys key value [] k h = (k, tt)
@@ -207,9 +207,9 @@ set_keys key value (e ∷ es) k h = by (set_keys key value es k h.1) (slice_cmp 
     by more Equal = (k, h.1)
     by more Greater = (h.0, more)
 
-unset_behind : (k key : List ℕ) (es : List Entry) → ComesBefore k es → Rise es → ComesBefore k (unset_entry key es)
-unset_behind k key [] h r = tt
-unset_behind k key (e ∷ es) h r = by (bytes_eq e.0 key)
+unset_after : (k key : List ℕ) (es : List Entry) → ComesBefore k es → Rise es → ComesBefore k (unset_entry key es)
+unset_after k key [] h r = tt
+unset_after k key (e ∷ es) h r = by (bytes_eq e.0 key)
   where
     by : (b : Bool) → ComesBefore k (if b then es else e ∷ unset_entry key es)
     by true = before_trans k e.0 es h r.0
@@ -221,7 +221,7 @@ unset_rises key (e ∷ es) r = by (unset_rises key es r.1) (bytes_eq e.0 key)
   where
     by : Rise (unset_entry key es) → (b : Bool) → Rise (if b then es else e ∷ unset_entry key es)
     by more true = r.1
-    by more false = (unset_behind e.0 key es r.0 r.1, more)
+    by more false = (unset_after e.0 key es r.0 r.1, more)
 
 pub unset_keys : (key : List ℕ) (es : List Entry) → HaveKeys es → HaveKeys (unset_entry key es)
 unset_keys key [] h = tt

@@ -63,53 +63,53 @@ one_holding stored name es fs (m, h) (n, k) = one_walk stored m n name es fs h k
 
 -- ---- keys that rise, each before all after it
 
-abbrev AllBehind : List ℕ → List Entry → Type 0
-AllBehind k es = AllByRecursion (λ e. Below k e.0) es
+abbrev AllAfter : List ℕ → List Entry → Type 0
+AllAfter k es = AllByRecursion (λ e. Below k e.0) es
 
 abbrev pub RiseAll : List Entry → Type 0
 RiseAll [] = ⊤
-RiseAll (e ∷ es) = AllBehind e.0 es × RiseAll es
+RiseAll (e ∷ es) = AllAfter e.0 es × RiseAll es
 
-all_behind : (k : List ℕ) (es : List Entry) → ComesBefore k es → Rise es → AllBehind k es
-all_behind k [] b r = tt
-all_behind k (e ∷ es) b r = (b, all_behind k es (before_trans k e.0 es b r.0) r.1)
+all_after : (k : List ℕ) (es : List Entry) → ComesBefore k es → Rise es → AllAfter k es
+all_after k [] b r = tt
+all_after k (e ∷ es) b r = (b, all_after k es (before_trans k e.0 es b r.0) r.1)
 
 pub rise_all : (es : List Entry) → Rise es → RiseAll es
 rise_all [] r = tt
-rise_all (e ∷ es) r = (all_behind e.0 es r.0 r.1, rise_all es r.1)
+rise_all (e ∷ es) r = (all_after e.0 es r.0 r.1, rise_all es r.1)
 
-first_behind : (k : List ℕ) (es : List Entry) → AllBehind k es → ComesBefore k es
-first_behind k [] h = tt
-first_behind k (e ∷ es) h = h.0
+first_after : (k : List ℕ) (es : List Entry) → AllAfter k es → ComesBefore k es
+first_after k [] h = tt
+first_after k (e ∷ es) h = h.0
 
 pub all_rise : (es : List Entry) → RiseAll es → Rise es
 all_rise [] r = tt
-all_rise (e ∷ es) r = (first_behind e.0 es r.0, all_rise es r.1)
+all_rise (e ∷ es) r = (first_after e.0 es r.0, all_rise es r.1)
 
-behind_right : (k : List ℕ) (now more : List Entry) → AllBehind k (now ++ more) → AllBehind k more
-behind_right k [] more h = h
-behind_right k (e ∷ now) more h = behind_right k now more h.1
+after_right : (k : List ℕ) (now more : List Entry) → AllAfter k (now ++ more) → AllAfter k more
+after_right k [] more h = h
+after_right k (e ∷ now) more h = after_right k now more h.1
 
 rise_right : (now more : List Entry) → RiseAll (now ++ more) → RiseAll more
 rise_right [] more r = r
 rise_right (e ∷ now) more r = rise_right now more r.1
 
-abbrev BehindToo : List Entry → List Entry → Type 0
-BehindToo es fs = (k : List ℕ) → AllBehind k es → AllBehind k fs
+abbrev AfterToo : List Entry → List Entry → Type 0
+AfterToo es fs = (k : List ℕ) → AllAfter k es → AllAfter k fs
 
-behind_kept : (now more less : List Entry) → BehindToo more less → BehindToo (now ++ more) (now ++ less)
-behind_kept [] more less f k h = f k h
-behind_kept (e ∷ now) more less f k h = (h.0, behind_kept now more less f k h.1)
+after_kept : (now more less : List Entry) → AfterToo more less → AfterToo (now ++ more) (now ++ less)
+after_kept [] more less f k h = f k h
+after_kept (e ∷ now) more less f k h = (h.0, after_kept now more less f k h.1)
 
-rise_kept : (now more less : List Entry) → RiseAll (now ++ more) → BehindToo more less → RiseAll less → RiseAll (now ++ less)
+rise_kept : (now more less : List Entry) → RiseAll (now ++ more) → AfterToo more less → RiseAll less → RiseAll (now ++ less)
 rise_kept [] more less r f s = s
-rise_kept (e ∷ now) more less r f s = (behind_kept now more less f e.0 r.0, rise_kept now more less r.1 f s)
+rise_kept (e ∷ now) more less r f s = (after_kept now more less f e.0 r.0, rise_kept now more less r.1 f s)
 
 -- ---- records of joined entries
 
-none_behind : (k : List ℕ) (es : List Entry) → AllBehind k es → lookup k es ≡ None
-none_behind k [] h = refl
-none_behind k (e ∷ es) h = other_first k e.0 e.1 es (λ is. not_same k e.0 h.0 (sym is)) ∙ none_behind k es h.1
+none_after : (k : List ℕ) (es : List Entry) → AllAfter k es → lookup k es ≡ None
+none_after k [] h = refl
+none_after k (e ∷ es) h = other_first k e.0 e.1 es (λ is. not_same k e.0 h.0 (sym is)) ∙ none_after k es h.1
 
 found_by : (b : Bool) (u v : CidParts) (x y : Option CidParts) → (if b then Some u else x) ≡ Some v → (x ≡ Some v → y ≡ Some v) → (if b then Some u else y) ≡ Some v
 found_by true u v x y h f = h
@@ -135,7 +135,7 @@ apart k v [] more r h = absurd (cc h)
 apart k v (e ∷ now) more r h = by (bytes_eq e.0 k) refl h (apart k v now more r.1)
   where
     by : (b : Bool) → bytes_eq e.0 k ≡ b → (if b then Some e.1 else lookup k now) ≡ Some v → (lookup k now ≡ Some v → lookup k more ≡ None) → lookup k more ≡ None
-    by true is q f = none_behind k more (subst (λ x. AllBehind x more) ((bytes_eq-Decides e.0 k).0 is) (behind_right e.0 now more r.0))
+    by true is q f = none_after k more (subst (λ x. AllAfter x more) ((bytes_eq-Decides e.0 k).0 is) (after_right e.0 now more r.0))
     by false is q f = f q
 
 -- ---- what is left where trees are dropped
@@ -147,7 +147,7 @@ module _ (W : CidParts → List Entry → Type 0) (dropped : List CidParts) wher
 
   -- of these entries, which have trees of these names, the others are left
   record Leaves (names : List CidParts) (es less : List Entry) : Type 0 where
-    behind : BehindToo es less
+    following : AfterToo es less
     rise : RiseAll less
     none : (k : List ℕ) → lookup k es ≡ None → lookup k less ≡ None
     each : (k : List ℕ) → (lookup k es ≡ lookup k less) ⊎ IsDropped names k
@@ -155,7 +155,7 @@ module _ (W : CidParts → List Entry → Type 0) (dropped : List CidParts) wher
         → (lookup k es ≡ Some v) × (lookup k less ≡ None)
 
   leaves_none : Leaves [] [] []
-  leaves_none = record { behind = λ k h. h; rise = tt; none = λ k h. h; each = λ k. inl refl; gone = λ k name l v d m. absurd m }
+  leaves_none = record { following = λ k h. h; rise = tt; none = λ k h. h; each = λ k. inl refl; gone = λ k name l v d m. absurd m }
 
   module _ (now more less : List Entry) (r : RiseAll (now ++ more)) (names wider : List CidParts) (rest : Leaves names more less) where
     other_record : (k : List ℕ) (u v : CidParts) → lookup k now ≡ Some u → lookup k more ≡ Some v → ⊥
@@ -167,8 +167,8 @@ module _ (W : CidParts → List Entry → Type 0) (dropped : List CidParts) wher
     -- the first stay
     leaves_first : ((q : CidParts) → Among q names → Among q wider) → ((q : CidParts) → Among q dropped → Among q wider → Among q names) → Leaves wider (now ++ more) (now ++ less)
     leaves_first f g = record {
-      behind = behind_kept now more less rest.behind;
-      rise = rise_kept now more less r rest.behind rest.rise;
+      following = after_kept now more less rest.following;
+      rise = rise_kept now more less r rest.following rest.rise;
       none = λ k h. none_by_record k (lookup k now) refl h;
       each = λ k. each_by k (lookup k now) refl;
       gone = λ k name l v d m w h. gone_by k name l v (rest.gone k name l v d (g name d m) w h) (lookup k now) refl;
@@ -193,7 +193,7 @@ module _ (W : CidParts → List Entry → Type 0) (dropped : List CidParts) wher
     -- the first are dropped
     leaves_rest : (name : CidParts) → Among name dropped → W name now → ((l : List Entry) → W name l → l ≡ now) → Leaves (name ∷ names) (now ++ more) less
     leaves_rest name d w one = record {
-      behind = λ k h. rest.behind k (behind_right k now more h);
+      following = λ k h. rest.following k (after_right k now more h);
       rise = rest.rise;
       none = λ k h. none_by_record k (lookup k now) refl h;
       each = λ k. each_by k (lookup k now) refl;
@@ -267,7 +267,7 @@ module _ (stored held : Stored) (agree : (name : CidParts) (p q : NodeParts) →
   stays xs ys es l r is = (
     es,
     subst (λ zs. Lists (Holds held) zs es) (sym is) l,
-    record { behind = λ k h. h; rise = r; none = λ k h. h; each = λ k. inl refl; gone = λ k name fs v d. absurd d },
+    record { following = λ k h. h; rise = r; none = λ k h. h; each = λ k. inl refl; gone = λ k name fs v d. absurd d },
   )
 
   opened_or_stays : (dropped : List CidParts) (xs ys : List LevelItem) (es : List Entry) → Lists (Holds held) xs es → RiseAll es

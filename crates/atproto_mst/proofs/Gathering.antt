@@ -9,15 +9,15 @@ use Rattle.atproto_mst.specs.Keys.{Entry}
 use Rattle.atproto_mst.specs.Entries.{entry_of, entries}
 use Rattle.atproto_mst.specs.Nodes.{NodeRow, NodeParts, IsNodeAt, key_of_row, row_told}
 use Rattle.atproto_mst.specs.Walks.{WalksLink, WalksRows, WalksNode, WalksTree}
-use Rattle.atproto_mst.specs.Stops.{IsStoredNamed, NodeFault, RowFault, ComeBehind, last_entry_key, StopsBehind, StopsInRows, StopsInNode, StopsWalk}
-use Rattle.atproto_mst.specs.Gathering.{GathersEntries, AddsRow, key_behind}
+use Rattle.atproto_mst.specs.Stops.{IsStoredNamed, NodeFault, RowFault, ComeAfter, last_entry_key, StopsAfter, StopsInRows, StopsInNode, StopsWalk}
+use Rattle.atproto_mst.specs.Gathering.{GathersEntries, AddsRow, key_after}
 use Rattle.atproto_mst.specs.InLayers.{IsLayerRow, IfLinked, AreRowsOf, IsOfLayer, IsEmpty, IsRightBelow}
 use Rattle.atproto_mst.specs.declared.entries.MstEntry.{MstEntry}
 use Rattle.atproto_mst.specs.declared.error.MstError.{MstError}
 use Rattle.atproto_mst.specs.declared.error.MstError.TheVariants.{OutOfMemory, OtherTree}
-use Rattle.repository_types.specs.declared.repository.Entry.{Entry as Row}
+use Rattle.types_repository.specs.declared.repository.Entry.{Entry as Row}
 use Rattle.atproto_mst.proofs.Nodes.{same_node_at}
-use Rattle.atproto_mst.proofs.Rising.{first_behind, joined_behind, last_joined}
+use Rattle.atproto_mst.proofs.Rising.{first_after, joined_after, last_joined}
 
 abbrev pub Found : Type 0
 Found = Vec MstEntry Global
@@ -37,7 +37,7 @@ last_of_gathered W old new g = ap (last_entry_key []) g.all ∙ last_joined [] (
 -- ---- rows
 
 gathers_none : (W : List Entry → Type 0) (v : Found) → W [] → GathersEntries W v v
-gathers_none W v h = record { found = []; walked = h; behind = record { keys = tt; rise = tt; behind = tt }; all = sym (append-nil (entries v.items)) }
+gathers_none W v h = record { found = []; walked = h; following = record { keys = tt; rise = tt; following = tt }; all = sym (append-nil (entries v.items)) }
 
 pub gathers_no_link : (W : CidParts → List Entry → Type 0) (l : Option CidParts) → l ≡ None → (v : Found) → GathersEntries (WalksLink W l) v v
 gathers_no_link W l h v = subst (λ x. GathersEntries (WalksLink W x) v v) (sym h) (gathers_none (WalksLink W None) v refl)
@@ -51,7 +51,7 @@ module _ (W : CidParts → List Entry → Type 0) (l : Option CidParts) (name : 
   gathers_link more = record {
     found = g.found;
     walked = subst (λ x. WalksLink W x g.found) (sym is) (g.walked, λ none. more (omega (arith, added, ap length none)));
-    behind = g.behind;
+    following = g.following;
     all = g.all;
   }
 
@@ -59,9 +59,9 @@ module _ (W : CidParts → List Entry → Type 0) (l : Option CidParts) (name : 
   none_found [] h = refl
   none_found (e ∷ es) h = absurd (omega (arith, h))
 
-  pub stops_without : (S : List ℕ → CidParts → MstError → Type 0) → length new.items ≡ length old.items → StopsBehind W S (last_entry_key [] (entries old.items)) l OtherTree
+  pub stops_without : (S : List ℕ → CidParts → MstError → Type 0) → length new.items ≡ length old.items → StopsAfter W S (last_entry_key [] (entries old.items)) l OtherTree
   stops_without S same =
-      subst (λ x. StopsBehind W S (last_entry_key [] (entries old.items)) x OtherTree) (sym is) (inr (refl, subst (W name) (none_found g.found (omega (arith, added, same))) g.walked))
+      subst (λ x. StopsAfter W S (last_entry_key [] (entries old.items)) x OtherTree) (sym is) (inr (refl, subst (W name) (none_found g.found (omega (arith, added, same))) g.walked))
 
 in_row : (a : List Entry) (e : Entry) (b c : List Entry) → ((a ++ (e ∷ [])) ++ b) ++ c ≡ a ++ (e ∷ (b ++ c))
 in_row a e b c = simp append_assoc
@@ -71,11 +71,11 @@ gathers_row : (W : CidParts → List Entry → Type 0) (r : NodeRow) (rs : List 
 gathers_row W r rs previous old mid late new a g h = record {
   found = (key_of_row previous r, r.value) ∷ (g.found ++ h.found);
   walked = (a.row.shares, (g.found, h.found, g.walked, h.walked, refl));
-  behind =
+  following =
       let row = last_of_row r previous old mid a in
       let below = last_of_gathered (WalksLink W r.after) mid late g ∙ ap (λ k. last_entry_key k g.found) row in
-      first_behind (last_entry_key [] (entries old.items)) (key_of_row previous r, r.value) (g.found ++ h.found) a.row.is_key a.row.behind
-      (joined_behind (key_of_row previous r) g.found h.found (subst (λ k. ComeBehind k g.found) row g.behind) (subst (λ k. ComeBehind k h.found) below h.behind));
+      first_after (last_entry_key [] (entries old.items)) (key_of_row previous r, r.value) (g.found ++ h.found) a.row.is_key a.row.following
+      (joined_after (key_of_row previous r) g.found h.found (subst (λ k. ComeAfter k g.found) row g.following) (subst (λ k. ComeAfter k h.found) below h.following));
   all = h.all ∙ ap (λ x. x ++ h.found) (g.all ∙ ap (λ x. x ++ g.found) a.all) ∙ in_row (entries old.items) (key_of_row previous r, r.value) g.found h.found;
 }
 
@@ -85,7 +85,7 @@ entries_taken (suc n) [] = refl
 entries_taken (suc n) (e ∷ es) = ap (λ xs. entry_of e ∷ xs) (entries_taken n es)
 
 -- a row's key keeps its place among the entries
-pub key_kept : (W : List Entry → Type 0) (r : NodeRow) (previous : List ℕ) (old mid late : Found) → AddsRow r previous old mid → GathersEntries W mid late → key_behind (length mid.items) late.items ≡ key_of_row previous r
+pub key_kept : (W : List Entry → Type 0) (r : NodeRow) (previous : List ℕ) (old mid late : Found) → AddsRow r previous old mid → GathersEntries W mid late → key_after (length mid.items) late.items ≡ key_of_row previous r
 key_kept W r previous old mid late a g =
     let here : length (entries mid.items) ≡ length mid.items = length-map mid.items entry_of in
     ap (last_entry_key []) (entries_taken (length mid.items) late.items
@@ -113,18 +113,18 @@ module _ (W : CidParts → List Entry → Type 0) (S : List ℕ → CidParts →
     stops_at_row e h = go.stops e (inl h)
 
     module _ (mid : Found) (a : AddsRow r previous old mid) where
-      pub stops_behind_row : (e : MstError) → StopsBehind W S (last_entry_key [] (entries mid.items)) r.after e → StopsInRows W S (last_entry_key [] (entries first.items)) [] all e
-      stops_behind_row e h = go.stops e (inr (a.row, inl (subst (λ k. StopsBehind W S k r.after e) (last_of_row r previous old mid a) h)))
+      pub stops_after_row : (e : MstError) → StopsAfter W S (last_entry_key [] (entries mid.items)) r.after e → StopsInRows W S (last_entry_key [] (entries first.items)) [] all e
+      stops_after_row e h = go.stops e (inr (a.row, inl (subst (λ k. StopsAfter W S k r.after e) (last_of_row r previous old mid a) h)))
 
       stops_later : (late : Found) → GathersEntries (WalksLink W r.after) mid late → (e : MstError) → StopsInRows W S (last_entry_key [] (entries late.items)) (key_of_row previous r) rs e
           → StopsInRows W S (last_entry_key [] (entries old.items)) previous (r ∷ rs) e
       stops_later late g e h =
           let row = last_of_row r previous old mid a in
-          let behind = last_of_gathered (WalksLink W r.after) mid late g ∙ ap (λ k. last_entry_key k g.found) row in
-          inr (a.row, inr (g.found, g.walked, subst (λ k. ComeBehind k g.found) row g.behind, subst (λ k. StopsInRows W S k (key_of_row previous r) rs e) behind h))
+          let following = last_of_gathered (WalksLink W r.after) mid late g ∙ ap (λ k. last_entry_key k g.found) row in
+          inr (a.row, inr (g.found, g.walked, subst (λ k. ComeAfter k g.found) row g.following, subst (λ k. StopsInRows W S k (key_of_row previous r) rs e) following h))
 
-      pub goes_behind_row : (late : Found) → GathersEntries (WalksLink W r.after) mid late → GoesOn W S first all late (key_behind (length mid.items) late.items) rs
-      goes_behind_row late g = subst (λ k. GoesOn W S first all late k rs) (sym (key_kept (WalksLink W r.after) r previous old mid late a g)) (record {
+      pub goes_after_row : (late : Found) → GathersEntries (WalksLink W r.after) mid late → GoesOn W S first all late (key_after (length mid.items) late.items) rs
+      goes_after_row late g = subst (λ k. GoesOn W S first all late k rs) (sym (key_kept (WalksLink W r.after) r previous old mid late a g)) (record {
         walks = λ new h. go.walks new (gathers_row W r rs previous old mid late new a g h);
         stops = λ e h. go.stops e (stops_later late g e h);
       })
@@ -156,9 +156,9 @@ pub record SettledBy (F : CidParts → Type 0) (n : ℕ) (all : List NodeRow) (f
 pub settled_at_start : (F : CidParts → Type 0) (n : ℕ) (all : List NodeRow) → SettledBy F n all true [] all
 settled_at_start F n all = record { on = λ h. (refl, h); back = λ e h. h }
 
-pub settled_behind_row : (F : CidParts → Type 0) (n : ℕ) (all : List NodeRow) (fits row below next : Bool) (key : List ℕ) (r : NodeRow) (rs : List NodeRow) → SettledBy F n all fits key (r ∷ rs)
+pub settled_after_row : (F : CidParts → Type 0) (n : ℕ) (all : List NodeRow) (fits row below next : Bool) (key : List ℕ) (r : NodeRow) (rs : List NodeRow) → SettledBy F n all fits key (r ∷ rs)
     → Decides row (IsLayerRow n key r) → Decides below (IfLinked F r.after) → Decides next ((fits ≡ true) × (row ≡ true) × (below ≡ true)) → SettledBy F n all next (key_of_row key r) rs
-settled_behind_row F n all fits row below next key r rs s is link step = record {
+settled_after_row F n all fits row below next key r rs s is link step = record {
   on = λ h. (let k = s.on h in (step.1 (k.0, is.1 k.1.0, link.1 k.1.1), k.1.2));
   back = λ e h. (let k = step.0 e in s.back k.0 (is.0 k.1, link.0 k.2, h));
 }
@@ -173,20 +173,20 @@ module _ (stored : Stored) (m : ℕ) (p : NodeParts) (old mid : Found) (g : Gath
   gathers_node new h = record {
     found = g.found ++ h.found;
     walked = (g.found, h.found, g.walked, h.walked, refl);
-    behind = joined_behind (last_entry_key [] (entries old.items)) g.found h.found g.behind
-        (subst (λ k. ComeBehind k h.found) (last_of_gathered (WalksLink (WalksTree m stored) p.left) old mid g) h.behind);
+    following = joined_after (last_entry_key [] (entries old.items)) g.found h.found g.following
+        (subst (λ k. ComeAfter k h.found) (last_of_gathered (WalksLink (WalksTree m stored) p.left) old mid g) h.following);
     all = h.all ∙ ap (λ x. x ++ h.found) g.all ∙ append_assoc (entries old.items) g.found h.found;
   }
 
   pub stops_in_node : (e : MstError) → StopsInRows (WalksTree m stored) (StopsWalk m stored) (last_entry_key [] (entries mid.items)) [] p.rows e
       → StopsInNode (WalksTree m stored) (StopsWalk m stored) (last_entry_key [] (entries old.items)) p e
-  stops_in_node e h = inr (g.found, g.walked, g.behind, subst (λ k. StopsInRows (WalksTree m stored) (StopsWalk m stored) k [] p.rows e) (last_of_gathered (WalksLink (WalksTree m stored) p.left) old mid g) h)
+  stops_in_node e h = inr (g.found, g.walked, g.following, subst (λ k. StopsInRows (WalksTree m stored) (StopsWalk m stored) k [] p.rows e) (last_of_gathered (WalksLink (WalksTree m stored) p.left) old mid g) h)
 
 -- ---- a node under its name
 
 pub gathers_named : (stored : Stored) (name : CidParts) (m layers : ℕ) (p : NodeParts) → IsNodeAt stored name p → suc m ≡ layers → (old new : Found)
     → GathersEntries (WalksNode (WalksTree m stored) p) old new → GathersEntries (WalksTree layers stored name) old new
-gathers_named stored name m layers p at same old new g = subst (λ k. GathersEntries (WalksTree k stored name) old new) same (record { found = g.found; walked = (p, at, g.walked); behind = g.behind; all = g.all })
+gathers_named stored name m layers p at same old new g = subst (λ k. GathersEntries (WalksTree k stored name) old new) same (record { found = g.found; walked = (p, at, g.walked); following = g.following; all = g.all })
 
 pub stops_named : (stored : Stored) (name : CidParts) (m layers : ℕ) (p : NodeParts) → IsNodeAt stored name p → suc m ≡ layers → (before : List ℕ) (e : MstError)
     → StopsInNode (WalksTree m stored) (StopsWalk m stored) before p e → StopsWalk layers stored before name e

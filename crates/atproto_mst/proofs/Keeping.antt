@@ -1,7 +1,7 @@
 -- Which nodes are handed on, if some are stored already.
 use Rattle.std.proofs.Common.{◌≡◌, ◌⊎◌, inl, inr, Bool, true, false, List, [], ◌∷◌, ◌++◌, None, refl, sym, ap, ◌∙◌, subst, append_assoc, append-nil}
 use Rattle.std.specs.Prelude.{is_some, if◌then◌else◌}
-use Rattle.dagcbor_car.specs.Car.{Section}
+use Rattle.files_car.specs.Car.{Section}
 use Rattle.ipld_links.specs.Reaching.{Stored}
 use Rattle.ipld_links.specs.Sets.{Among}
 use Rattle.atproto_mst.specs.declared.error.MstError.{MstError}

@@ -4,7 +4,7 @@ use Rattle.std.specs.Prelude.{if◌then◌else◌}
 use Rattle.std.proofs.lemmas.List.{map-append}
 use Rattle.ipld_tree.specs.Cid.{CidParts}
 use Rattle.ipld_tree.specs.Spelling.{spelling}
-use Rattle.dagcbor_car.specs.Car.{Section}
+use Rattle.files_car.specs.Car.{Section}
 use Rattle.ipld_links.specs.Names.{block_name}
 use Rattle.ipld_links.specs.Reaching.{Stored}
 use Rattle.atproto_mst.specs.Keys.{Entry, key_layer}
@@ -115,9 +115,9 @@ module _ (stored : Stored) (n : ℕ) (F : CidParts → Type 0) (W : CidParts →
 
   rows_over : (rs : List NodeRow) (previous : List ℕ) (es : List Entry) → AreRowsOf F n previous rs → WalksRows W previous rs es → AreOver stored n previous rs es
   rows_over [] previous es f w = subst (AreOver stored n previous []) (sym w) (record { tops = refl; trees = refl; held = tt; within = tt })
-  rows_over (r ∷ rs) previous es (is, link, rows) (shares, (below, more, walked, behind, all)) =
+  rows_over (r ∷ rs) previous es (is, link, rows) (shares, (below, more, walked, following, all)) =
       subst (AreOver stored n previous (r ∷ rs)) (sym all)
-      (row_over previous r rs below more is shares (link_over r.after below link walked) (rows_over rs (key_of_row previous r) more rows behind))
+      (row_over previous r rs below more is shares (link_over r.after below link walked) (rows_over rs (key_of_row previous r) more rows following))
 
   node_by : (name : CidParts) (p : NodeParts) (below more : List Entry) → IsNodeAt stored name p → IsOver stored n p.left below → AreOver stored n [] p.rows more → IsWhole stored n name (below ++ more)
   unfolding node nodes
@@ -210,9 +210,9 @@ root_top : (stored : Stored) (W : CidParts → List Entry → Type 0) (l : Optio
     → WalksLink W l below → WalksRows W [] rs more → es ≡ below ++ more → AreBelow (suc (first_layer rs)) (leaves es) → first_layer rs ≡ top_layer (leaves es)
 root_top stored W None [] below more es f link rows all b = ap (λ x. top_layer (leaves x)) (sym (all ∙ ap₂ (λ x y. x ++ y) link rows))
 root_top stored W (Some name) [] below more es f link rows all b = absurd f
-root_top stored W l (r ∷ rs) below more es f link (shares, (under, behind, walked, next, is)) all b =
-    top_by (key_layer r.rest) (leaves es) (leaves below) (leaves (under ++ behind)) (leaf_of (key_of_row [] r, r.value)) b
-    (ap leaves (all ∙ ap (λ x. below ++ x) is) ∙ map-append leaf_of below ((key_of_row [] r, r.value) ∷ (under ++ behind))) (ap key_layer (first_key r))
+root_top stored W l (r ∷ rs) below more es f link (shares, (under, following, walked, next, is)) all b =
+    top_by (key_layer r.rest) (leaves es) (leaves below) (leaves (under ++ following)) (leaf_of (key_of_row [] r, r.value)) b
+    (ap leaves (all ∙ ap (λ x. below ++ x) is) ∙ map-append leaf_of below ((key_of_row [] r, r.value) ∷ (under ++ following))) (ap key_layer (first_key r))
 
 -- a root and the nodes below it are in their layers
 abbrev pub IsRoot : Stored → NodeParts → Type 0

@@ -9,7 +9,7 @@ use Rattle.atproto_mst.specs.Keys.{Entry, HaveCids, AreMstEntries}
 use Rattle.atproto_mst.specs.Entries.{entry_of, entries, IsMst}
 use Rattle.atproto_mst.specs.Nodes.{NodeRow, NodeParts, IsCidIfAny, IsNodeAt, key_of_row}
 use Rattle.atproto_mst.specs.Walks.{WalksLink, WalksRows, WalksNode, WalksTree, most_layers}
-use Rattle.atproto_mst.specs.Stops.{IsStoredNamed, NodeFault, ComeBehind, StopsInNode, StopsWalk, MstRefused, OneReason, last_entry_key}
+use Rattle.atproto_mst.specs.Stops.{IsStoredNamed, NodeFault, ComeAfter, StopsInNode, StopsWalk, MstRefused, OneReason, last_entry_key}
 use Rattle.atproto_mst.specs.InLayers.{IsOfLayer, IsRightBelow, first_layer}
 use Rattle.atproto_mst.specs.Gathering.{GathersEntries}
 use Rattle.atproto_mst.specs.declared.error.MstError.{MstError}
@@ -18,7 +18,7 @@ use Rattle.atproto_mst.proofs.Agreeing.{one_walk}
 use Rattle.atproto_mst.proofs.Canonical.{mst_walked}
 use Rattle.atproto_mst.proofs.Gathering.{Found, stops_named}
 use Rattle.atproto_mst.proofs.Layered.{root_over, IsRoot}
-use Rattle.atproto_mst.proofs.Rising.{all_behind}
+use Rattle.atproto_mst.proofs.Rising.{all_after}
 use Rattle.atproto_mst.proofs.Standing.{root_stands}
 use Rattle.atproto_mst.proofs.Stopping.{stops_never_walks, one_fault}
 
@@ -31,20 +31,20 @@ cids_joined : (es fs : List Entry) → HaveCids es → HaveCids fs → HaveCids 
 cids_joined [] fs h k = k
 cids_joined (e ∷ es) fs h k = (h.0, cids_joined es fs h.1 k)
 
-cids_behind : (W : CidParts → List Entry → Type 0) → GivesCids W → (l : Option CidParts) (es : List Entry) → WalksLink W l es → HaveCids es
-cids_behind W give None es w = subst HaveCids (sym w) tt
-cids_behind W give (Some name) es w = give name es w.0
+cids_after : (W : CidParts → List Entry → Type 0) → GivesCids W → (l : Option CidParts) (es : List Entry) → WalksLink W l es → HaveCids es
+cids_after W give None es w = subst HaveCids (sym w) tt
+cids_after W give (Some name) es w = give name es w.0
 
 cids_of_rows : (W : CidParts → List Entry → Type 0) → GivesCids W → (rows : List NodeRow) → AllByRecursion (λ r. AreCidParts r.value × IsCidIfAny r.after) rows
     → (previous : List ℕ) (es : List Entry) → WalksRows W previous rows es → HaveCids es
 cids_of_rows W give [] k previous es w = subst HaveCids (sym w) tt
 cids_of_rows W give (r ∷ rs) k previous es (shares, (below, more, link, rows, is)) =
-    subst HaveCids (sym is) (k.0.0, cids_joined below more (cids_behind W give r.after below link) (cids_of_rows W give rs k.1 (key_of_row previous r) more rows))
+    subst HaveCids (sym is) (k.0.0, cids_joined below more (cids_after W give r.after below link) (cids_of_rows W give rs k.1 (key_of_row previous r) more rows))
 
 pub walk_cids : (stored : Stored) (m : ℕ) → GivesCids (WalksTree m stored)
 walk_cids stored zero name es w = absurd w
 walk_cids stored (suc m) name es (p, at, (below, more, link, rows, is)) =
-    subst HaveCids (sym is) (cids_joined below more (cids_behind (WalksTree m stored) (walk_cids stored m) p.left below link)
+    subst HaveCids (sym is) (cids_joined below more (cids_after (WalksTree m stored) (walk_cids stored m) p.left below link)
     (cids_of_rows (WalksTree m stored) (walk_cids stored m) p.rows at.node.rows [] more rows))
 
 -- ---- why the root's tree is refused
@@ -71,7 +71,7 @@ no_root stored root e (inr fault) = refused_by_fault stored root e fault
 
 pub stops_for_memory : (stored : Stored) (root : CidParts) (e : MstError) → (e ≡ error.OutOfMemory) ⊎ StopsWalk most_layers stored [] root e → (es : List Entry) → IsMst stored root es → e ≡ error.OutOfMemory
 stops_for_memory stored root e (inl m) es h = m
-stops_for_memory stored root e (inr s) es h = absurd (stops_never_walks stored most_layers [] root e es s (mst_walked stored root es h) (all_behind es h.valid.keys h.valid.rise))
+stops_for_memory stored root e (inr s) es h = absurd (stops_never_walks stored most_layers [] root e es s (mst_walked stored root es h) (all_after es h.valid.keys h.valid.rise))
 
 -- the root of a stored tree is stored
 pub stored_root : (stored : Stored) (root : CidParts) (es : List Entry) → IsMst stored root es → IsStoredNamed stored root
@@ -95,7 +95,7 @@ module _ (stored : Stored) (root : CidParts) (p : NodeParts) (at : IsNodeAt stor
 
     are_entries : AreMstEntries (entries found.items)
     are_entries =
-        let order = subst (ComeBehind []) (sym found_is) (subst (λ es. ComeBehind (last_entry_key [] (entries es)) gathered.found) empty gathered.behind) in record {
+        let order = subst (ComeAfter []) (sym found_is) (subst (λ es. ComeAfter (last_entry_key [] (entries es)) gathered.found) empty gathered.following) in record {
           keys = order.keys;
           rise = order.rise;
           values = walk_cids stored most_layers root (entries found.items) walks_found;
@@ -123,7 +123,7 @@ module _ (stored : Stored) (root : CidParts) (p : NodeParts) (at : IsNodeAt stor
 
 other_or_stopped : (stored : Stored) (root : CidParts) (e : MstError) → StopsWalk most_layers stored [] root e → MstRefused stored root error.OtherTree → e ≡ error.OtherTree
 other_or_stopped stored root e s (inl t) = one_fault stored most_layers [] root e error.OtherTree s t
-other_or_stopped stored root e s (inr (es, w, valid, other)) = absurd (stops_never_walks stored most_layers [] root e es s w (all_behind es valid.keys valid.rise))
+other_or_stopped stored root e s (inr (es, w, valid, other)) = absurd (stops_never_walks stored most_layers [] root e es s w (all_after es valid.keys valid.rise))
 
 pub one_reason : OneReason
 one_reason stored root error.OutOfMemory f h k = inl refl

@@ -146,9 +146,9 @@ joined : (a b c : List Changed) → (a ++ b) ++ c ≡ a ++ (b ++ c)
 joined [] b c = refl
 joined (x ∷ a) b c = ap (λ l. x ∷ l) (joined a b c)
 
-nothing_behind : (a : List Changed) → a ++ [] ≡ a
-nothing_behind [] = refl
-nothing_behind (x ∷ a) = ap (λ l. x ∷ l) (nothing_behind a)
+nothing_after : (a : List Changed) → a ++ [] ≡ a
+nothing_after [] = refl
+nothing_after (x ∷ a) = ap (λ l. x ∷ l) (nothing_after a)
 
 -- what was found, and what is left of both
 abbrev pub Merged : List Changed → List Changed → List MstEntry → List MstEntry → Type 0
@@ -174,33 +174,33 @@ module _ (all found new : List Changed) (es fs : List MstEntry) (at next : ℕ) 
   first_of_fs : drop next fs ≡ f ∷ drop (next + 1) fs
   first_of_fs = at_drop_more (λ l. l) fs next f under ∙ ap (λ x. x ∷ drop (next + 1) fs) (sym is_f)
 
-  abbrev es_behind : List MstEntry
-  es_behind = drop (at + 1) es
+  abbrev es_after : List MstEntry
+  es_after = drop (at + 1) es
 
-  abbrev fs_behind : List MstEntry
-  fs_behind = drop (next + 1) fs
+  abbrev fs_after : List MstEntry
+  fs_after = drop (next + 1) fs
 
-  merged_first : Merged all found (e ∷ es_behind) (f ∷ fs_behind)
-  merged_first = h ∙ ap (λ l. found ++ diff_of (entries l) (entries (drop next fs))) first_of_es ∙ ap (λ l. found ++ diff_of (entries (e ∷ es_behind)) (entries l)) first_of_fs
+  merged_first : Merged all found (e ∷ es_after) (f ∷ fs_after)
+  merged_first = h ∙ ap (λ l. found ++ diff_of (entries l) (entries (drop next fs))) first_of_es ∙ ap (λ l. found ++ diff_of (entries (e ∷ es_after)) (entries l)) first_of_fs
 
   at_order : (o : Ordering) → slice_cmp nat_cmp e.key.items f.key.items ≡ o
-      → all ≡ found ++ by_order o (taken_away e ∷ diff_of (entries es_behind) (entries (f ∷ fs_behind)))
-      (changes_of_key e.key.items (Some e.value) (Some f.value) ++ diff_of (entries es_behind) (entries fs_behind))
-      (put_there f ∷ diff_of (entries (e ∷ es_behind)) (entries fs_behind))
-  at_order o is = merged_first ∙ ap (λ x. found ++ by_order x (taken_away e ∷ diff_of (entries es_behind) (entries (f ∷ fs_behind)))
-      (changes_of_key e.key.items (Some e.value) (Some f.value) ++ diff_of (entries es_behind) (entries fs_behind))
-      (put_there f ∷ diff_of (entries (e ∷ es_behind)) (entries fs_behind))) is
+      → all ≡ found ++ by_order o (taken_away e ∷ diff_of (entries es_after) (entries (f ∷ fs_after)))
+      (changes_of_key e.key.items (Some e.value) (Some f.value) ++ diff_of (entries es_after) (entries fs_after))
+      (put_there f ∷ diff_of (entries (e ∷ es_after)) (entries fs_after))
+  at_order o is = merged_first ∙ ap (λ x. found ++ by_order x (taken_away e ∷ diff_of (entries es_after) (entries (f ∷ fs_after)))
+      (changes_of_key e.key.items (Some e.value) (Some f.value) ++ diff_of (entries es_after) (entries fs_after))
+      (put_there f ∷ diff_of (entries (e ∷ es_after)) (entries fs_after))) is
 
   pub merged_less : slice_cmp nat_cmp e.key.items f.key.items ≡ Less → new ≡ found ++ (e.key.items, (Some e.value, None)) ∷ [] → Merged all new (drop (at + 1) es) (drop next fs)
-  merged_less o n = goes_on all found (taken_away e ∷ []) new (diff_of (entries es_behind) (entries (drop next fs))) n
-      (at_order Less o ∙ ap (λ l. found ++ (taken_away e ∷ diff_of (entries es_behind) (entries l))) (sym first_of_fs))
+  merged_less o n = goes_on all found (taken_away e ∷ []) new (diff_of (entries es_after) (entries (drop next fs))) n
+      (at_order Less o ∙ ap (λ l. found ++ (taken_away e ∷ diff_of (entries es_after) (entries l))) (sym first_of_fs))
 
   pub merged_equal : slice_cmp nat_cmp e.key.items f.key.items ≡ Equal → new ≡ found ++ changes_of_key e.key.items (Some e.value) (Some f.value) → Merged all new (drop (at + 1) es) (drop (next + 1) fs)
-  merged_equal o n = goes_on all found (changes_of_key e.key.items (Some e.value) (Some f.value)) new (diff_of (entries es_behind) (entries fs_behind)) n (at_order Equal o)
+  merged_equal o n = goes_on all found (changes_of_key e.key.items (Some e.value) (Some f.value)) new (diff_of (entries es_after) (entries fs_after)) n (at_order Equal o)
 
   pub merged_greater : slice_cmp nat_cmp e.key.items f.key.items ≡ Greater → new ≡ found ++ (f.key.items, (None, Some f.value)) ∷ [] → Merged all new (drop at es) (drop (next + 1) fs)
-  merged_greater o n = goes_on all found (put_there f ∷ []) new (diff_of (entries (drop at es)) (entries fs_behind)) n
-      (at_order Greater o ∙ ap (λ l. found ++ (put_there f ∷ diff_of (entries l) (entries fs_behind))) (sym first_of_es))
+  merged_greater o n = goes_on all found (put_there f ∷ []) new (diff_of (entries (drop at es)) (entries fs_after)) n
+      (at_order Greater o ∙ ap (λ l. found ++ (put_there f ∷ diff_of (entries l) (entries fs_after))) (sym first_of_es))
 
 -- equal entries have equal rests
 abbrev pub SameRests : List MstEntry → List MstEntry → ℕ → ℕ → Type 0
@@ -217,8 +217,8 @@ module _ (es fs : List MstEntry) (at next : ℕ) (e f : MstEntry) (is_e : e ≡ 
   same_first : entries es ≡ entries fs → entry_of e ≡ entry_of f
   same_first is = cc (same_both is)
 
-  pub same_behind : SameRests es fs (at + 1) (next + 1)
-  same_behind is = cc (same_both is)
+  pub same_after : SameRests es fs (at + 1) (next + 1)
+  same_after is = cc (same_both is)
 
   pub others_less : slice_cmp nat_cmp e.key.items f.key.items ≡ Less → entries es ≢ entries fs
   others_less o is = not_same e.key.items f.key.items o (ap (λ x. x.0) (same_first is))
@@ -252,7 +252,7 @@ none_left i l h = omega (arith, h, length-drop i l)
 -- if one of the lists has ended
 at_end : (es fs : List MstEntry) → (length es ≡ 0) ⊎ (length fs ≡ 0) → diff_of (entries es) (entries fs) ≡ removed (entries es) ++ added (entries fs)
 at_end [] fs h = refl
-at_end (e ∷ es) [] h = sym (nothing_behind (removed (entries (e ∷ es))))
+at_end (e ∷ es) [] h = sym (nothing_after (removed (entries (e ∷ es))))
 at_end (e ∷ es) (f ∷ fs) (inl h) = absurd (omega (arith, h))
 at_end (e ∷ es) (f ∷ fs) (inr h) = absurd (omega (arith, h))
 

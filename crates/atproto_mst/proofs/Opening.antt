@@ -16,7 +16,7 @@ use Rattle.atproto_mst.specs.declared.entries.MstEntry.{MstEntry}
 use Rattle.atproto_mst.specs.declared.error.MstError.{MstError}
 use Rattle.atproto_mst.specs.declared.error.MstError.TheVariants as error
 use Rattle.atproto_mst.specs.declared.levels.LevelEntry.{LevelEntry}
-use Rattle.repository_types.specs.declared.repository.Node.{Node}
+use Rattle.types_repository.specs.declared.repository.Node.{Node}
 
 -- ---- items, joined
 
@@ -228,8 +228,8 @@ pub links_within : (left : Option CidParts) (all before rest : List LevelEntry) 
     → (q : CidParts) → Among q (link_names (held_items (h ∷ []))) → Among q (link_names (link_items left ++ held_items all))
 links_within left all before rest h is q m =
     let one = subst (Among q) (ap link_names (append-nil (link_items h.after))) m in
-    let behind = subst (Among q) (sym (links_joined (link_items h.after) (held_items rest))) (among_left q (link_names (link_items h.after)) (link_names (held_items rest)) one) in
-    let there = subst (Among q) (sym (links_joined (held_items before) (held_items (h ∷ rest)))) (among_right q (link_names (held_items before)) (link_names (held_items (h ∷ rest))) behind) in
+    let following = subst (Among q) (sym (links_joined (link_items h.after) (held_items rest))) (among_left q (link_names (link_items h.after)) (link_names (held_items rest)) one) in
+    let there = subst (Among q) (sym (links_joined (held_items before) (held_items (h ∷ rest)))) (among_right q (link_names (held_items before)) (link_names (held_items (h ∷ rest))) following) in
     let all_there = subst (Among q) (ap link_names (sym (held_joined before (h ∷ rest)) ∙ ap held_items (sym is))) there in
     subst (Among q) (sym (links_joined (link_items left) (held_items all))) (among_right q (link_names (link_items left)) (link_names (held_items all)) all_there)
 

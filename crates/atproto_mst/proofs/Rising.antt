@@ -5,7 +5,7 @@ use Rattle.std.specs.Ordering.{nat_cmp}
 use Rattle.std.specs.Cmp.Lexicographic.{slice_cmp}
 use Rattle.atproto_mst.specs.Keys.{Entry, IsKey, HaveKeys, ComesBefore, Rise}
 use Rattle.atproto_mst.specs.Entries.{entries}
-use Rattle.atproto_mst.specs.Stops.{last_entry_key, ComeBehind}
+use Rattle.atproto_mst.specs.Stops.{last_entry_key, ComeAfter}
 use Rattle.atproto_mst.specs.declared.entries.MstEntry.{MstEntry}
 
 pub keys_left : (es fs : List Entry) → HaveKeys (es ++ fs) → HaveKeys es
@@ -32,29 +32,29 @@ pub before_right : (key : List ℕ) (es fs : List Entry) → ComesBefore key (es
 before_right key [] fs h r = h
 before_right key (e ∷ es) fs h r = before_right e.0 es fs r.0 r.1
 
-pub behind_left : (before : List ℕ) (es fs : List Entry) → ComeBehind before (es ++ fs) → ComeBehind before es
-behind_left before es fs h = record {
+pub after_left : (before : List ℕ) (es fs : List Entry) → ComeAfter before (es ++ fs) → ComeAfter before es
+after_left before es fs h = record {
   keys = keys_left es fs h.keys;
   rise = rise_left es fs h.rise;
-  behind = before_left before es fs h.behind;
+  following = before_left before es fs h.following;
 }
 
-pub behind_right : (before : List ℕ) (es fs : List Entry) → ComeBehind before (es ++ fs) → ComeBehind (last_entry_key before es) fs
-behind_right before es fs h = record {
+pub after_right : (before : List ℕ) (es fs : List Entry) → ComeAfter before (es ++ fs) → ComeAfter (last_entry_key before es) fs
+after_right before es fs h = record {
   keys = keys_right es fs h.keys;
   rise = rise_right es fs h.rise;
-  behind = before_right before es fs h.behind h.rise;
+  following = before_right before es fs h.following h.rise;
 }
 
-pub behind_first : (before : List ℕ) (e : Entry) (es : List Entry) → ComeBehind before (e ∷ es) → ComeBehind e.0 es
-behind_first before e es h = record { keys = h.keys.1; rise = h.rise.1; behind = h.rise.0 }
+pub after_first : (before : List ℕ) (e : Entry) (es : List Entry) → ComeAfter before (e ∷ es) → ComeAfter e.0 es
+after_first before e es h = record { keys = h.keys.1; rise = h.rise.1; following = h.rise.0 }
 
-pub first_behind : (before : List ℕ) (e : Entry) (es : List Entry) → IsKey e.0 → slice_cmp nat_cmp before e.0 ≡ Less → ComeBehind e.0 es → ComeBehind before (e ∷ es)
-first_behind before e es k b h = record { keys = (k, h.keys); rise = (h.behind, h.rise); behind = b }
+pub first_after : (before : List ℕ) (e : Entry) (es : List Entry) → IsKey e.0 → slice_cmp nat_cmp before e.0 ≡ Less → ComeAfter e.0 es → ComeAfter before (e ∷ es)
+first_after before e es k b h = record { keys = (k, h.keys); rise = (h.following, h.rise); following = b }
 
-pub joined_behind : (before : List ℕ) (es fs : List Entry) → ComeBehind before es → ComeBehind (last_entry_key before es) fs → ComeBehind before (es ++ fs)
-joined_behind before [] fs h k = k
-joined_behind before (e ∷ es) fs h k = first_behind before e (es ++ fs) h.keys.0 h.behind (joined_behind e.0 es fs (behind_first before e es h) k)
+pub joined_after : (before : List ℕ) (es fs : List Entry) → ComeAfter before es → ComeAfter (last_entry_key before es) fs → ComeAfter before (es ++ fs)
+joined_after before [] fs h k = k
+joined_after before (e ∷ es) fs h k = first_after before e (es ++ fs) h.keys.0 h.following (joined_after e.0 es fs (after_first before e es h) k)
 
 -- the empty list of bytes comes before each key
 none_before : (es : List Entry) → HaveKeys es → ComesBefore [] es
@@ -62,8 +62,8 @@ none_before [] h = tt
 none_before (([], value) ∷ es) h = absurd (omega (arith, h.0.0))
 none_before ((b ∷ key, value) ∷ es) h = refl
 
-pub all_behind : (es : List Entry) → HaveKeys es → Rise es → ComeBehind [] es
-all_behind es k r = record { keys = k; rise = r; behind = none_before es k }
+pub all_after : (es : List Entry) → HaveKeys es → Rise es → ComeAfter [] es
+all_after es k r = record { keys = k; rise = r; following = none_before es k }
 
 pub last_joined : (key : List ℕ) (es fs : List Entry) → last_entry_key key (es ++ fs) ≡ last_entry_key (last_entry_key key es) fs
 last_joined key [] fs = refl

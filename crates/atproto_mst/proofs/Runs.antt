@@ -3,7 +3,7 @@ use Rattle.std.proofs.Common.{◌≡◌, ℕ, ◌<◌, ◌≤◌, Bool, true, fa
 use Rattle.std.specs.Prelude.{if◌then◌else◌, nat_lt, Option}
 use Rattle.std.proofs.lemmas.Bool.{lt-ltb, le-ltb}
 use Rattle.ipld_tree.specs.Cid.{CidParts}
-use Rattle.dagcbor_car.specs.Car.{Section}
+use Rattle.files_car.specs.Car.{Section}
 use Rattle.atproto_mst.specs.Trees.{Leaf, lower_run, entry_tree, entry_trees, nodes_between}
 use Rattle.atproto_mst.specs.Placed.{told, all_told, upper_rest}
 use Rattle.atproto_mst.specs.declared.leaves.Placed.{Placed}

@@ -11,10 +11,10 @@ use Rattle.dagcbor_items.specs.Shapes.{leaf, owned_leaf, option_of, natural_belo
 use Rattle.dagcbor_read.specs.Collections.{view_items, need_items, list_of, all_of}
 use Rattle.dagcbor_read.specs.Structs.{required_field, no_other_fields}
 use Rattle.dagcbor_read.specs.Whole.{IsWhole, HoldsNoValue}
-use Rattle.dagcbor_schema.proofs.ShownTrees.{IsShownBy, unsigned_shown, bytes_shown, link_shown, option_made, option_shown, list_shown, closed_shown, required_shown, struct_shown}
-use Rattle.repository_types.specs.Repository.{EntryView, entry_shape, NodeView, node_shape}
-use Rattle.repository_types.specs.declared.repository.Entry.{Entry}
-use Rattle.repository_types.specs.declared.repository.Node.{Node}
+use Rattle.types_schema.proofs.ShownTrees.{IsShownBy, unsigned_shown, bytes_shown, link_shown, option_made, option_shown, list_shown, closed_shown, required_shown, struct_shown}
+use Rattle.types_repository.specs.Repository.{EntryView, entry_shape, NodeView, node_shape}
+use Rattle.types_repository.specs.declared.repository.Entry.{Entry}
+use Rattle.types_repository.specs.declared.repository.Node.{Node}
 use Rattle.atproto_mst.specs.Trees.{link_tree}
 use Rattle.atproto_mst.specs.Nodes.{NodeRow, NodeParts, tree_of_row, tree_of_node, IsNode, row_told, node_told}
 

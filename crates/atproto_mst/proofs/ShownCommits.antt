@@ -8,11 +8,11 @@ use Rattle.ipld_tree.proofs.Ordered.{KeyAndTree, distinct_from_test}
 use Rattle.dagcbor_items.specs.Shapes.{leaf, owned_leaf, option_of, view_text, view_bytes, view_link, view_unsigned}
 use Rattle.dagcbor_read.specs.Structs.{required_field, no_other_fields}
 use Rattle.dagcbor_read.specs.Whole.{IsWhole, HoldsNoValue}
-use Rattle.dagcbor_schema.proofs.ShownTrees.{IsShownBy, unsigned_shown, text_shown, bytes_shown, closed_shown, required_shown, struct_shown}
+use Rattle.types_schema.proofs.ShownTrees.{IsShownBy, unsigned_shown, text_shown, bytes_shown, closed_shown, required_shown, struct_shown}
 use Rattle.dagcbor_write.specs.Trees.{field, option_tree}
 use Rattle.dagcbor_write.specs.Answers.{AreSpellingOf}
-use Rattle.repository_types.specs.Repository.{CommitView, commit_shape}
-use Rattle.repository_types.specs.declared.repository.Commit.{Commit}
+use Rattle.types_repository.specs.Repository.{CommitView, commit_shape}
+use Rattle.types_repository.specs.declared.repository.Commit.{Commit}
 use Rattle.atproto_mst.specs.Commits.{commit_tree}
 use Rattle.atproto_mst.proofs.Shown.{one_tree, below, link_made, cid_shown, cid_if_any_shown}
 

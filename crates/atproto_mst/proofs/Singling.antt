@@ -6,10 +6,10 @@ use Rattle.atproto_mst.specs.Finding.{lookup}
 use Rattle.atproto_mst.specs.Changes.{Changed, ComesBeforeChanges, ChangesRise, HasChange, IsChange, AreChanges}
 use Rattle.atproto_mst.proofs.Seeking.{Below, below_trans, not_same}
 
-behind : (k q : List ℕ) (cs : List Changed) → ComesBeforeChanges k cs → ChangesRise cs → HasChange q cs → Below k q
-behind k q [] b r h = absurd h
-behind k q (c ∷ cs) b r (inl is) = subst (λ x. Below k x) is b
-behind k q (c ∷ cs) b r (inr h) = below_trans k c.0 q b (behind c.0 q cs r.0 r.1 h)
+following : (k q : List ℕ) (cs : List Changed) → ComesBeforeChanges k cs → ChangesRise cs → HasChange q cs → Below k q
+following k q [] b r h = absurd h
+following k q (c ∷ cs) b r (inl is) = subst (λ x. Below k x) is b
+following k q (c ∷ cs) b r (inr h) = below_trans k c.0 q b (following c.0 q cs r.0 r.1 h)
 
 same_change : (old new : List Entry) (c d : Changed) → IsChange old new c → IsChange old new d → c.0 ≡ d.0 → c ≡ d
 same_change old new c d hc hd is =
@@ -24,10 +24,10 @@ same_first : (c d : Changed) (cs ds : List Changed) → ChangesRise (c ∷ cs) �
 same_first c d cs ds r s (inl e) h = sym e
 same_first c d cs ds r s (inr m) (inl e) = e
 same_first c d cs ds r s (inr m) (inr n) =
-    absurd (not_same c.0 c.0 (below_trans c.0 d.0 c.0 (behind c.0 d.0 cs r.0 r.1 n) (behind d.0 c.0 ds s.0 s.1 m)) refl)
+    absurd (not_same c.0 c.0 (below_trans c.0 d.0 c.0 (following c.0 d.0 cs r.0 r.1 n) (following d.0 c.0 ds s.0 s.1 m)) refl)
 
 past_first : (c d : Changed) (cs ds : List Changed) → ChangesRise (c ∷ cs) → c.0 ≡ d.0 → (k : List ℕ) → HasChange k cs → HasChange k (d ∷ ds) → HasChange k ds
-past_first c d cs ds r is k m (inl e) = absurd (not_same c.0 k (behind c.0 k cs r.0 r.1 m) (is ∙ e))
+past_first c d cs ds r is k m (inl e) = absurd (not_same c.0 k (following c.0 k cs r.0 r.1 m) (is ∙ e))
 past_first c d cs ds r is k m (inr x) = x
 
 one_way : (old new : List Entry) (cs ds : List Changed) → ChangesRise cs → AllByRecursion (IsChange old new) cs → ChangesRise ds → AllByRecursion (IsChange old new) ds

@@ -13,7 +13,7 @@ use Rattle.atproto_mst.specs.Commits.{commit_tree}
 use Rattle.atproto_mst.specs.UnreadCommits.{UnreadCommit}
 use Rattle.atproto_mst.specs.Stops.{IsStoredNamed}
 use Rattle.atproto_mst.specs.Repos.{IsOwnBlock, IsStoredCommit, CommitRefused, RepoRefused}
-use Rattle.repository_types.specs.declared.repository.Commit.{Commit}
+use Rattle.types_repository.specs.declared.repository.Commit.{Commit}
 use Rattle.atproto_mst.specs.declared.repo_error.RepoError.{RepoError}
 use Rattle.atproto_mst.specs.declared.repo_error.RepoError.TheVariants as error
 use Rattle.atproto_mst.proofs.ShownCommits.{no_commit, one_commit, one_data}

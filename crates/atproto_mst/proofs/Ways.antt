@@ -28,11 +28,11 @@ module _ (most : ℕ) (stored : Stored) (key : List ℕ) (root name : CidParts) 
       (went.all (name ∷ more) (subst (λ m. IsWay m stored key name (name ∷ more)) (layers_left most layer lt) (p, at, (more, refl, subst (λ y. WayBelow (IsWay (most - (layer + 1)) stored key) y more) says h))))
 
   ends_here : WayBelow (IsWay (most - (layer + 1)) stored key) s [] → IsWay most stored key root after
-  ends_here h = subst (IsWay most stored key root) (sym (none_behind after)) (goes_here [] h)
+  ends_here h = subst (IsWay most stored key root) (sym (none_after after)) (goes_here [] h)
     where
-      none_behind : (ns : List CidParts) → ns ≡ ns ++ []
-      none_behind [] = refl
-      none_behind (n ∷ ns) = ap (λ xs. n ∷ xs) (none_behind ns)
+      none_after : (ns : List CidParts) → ns ≡ ns ++ []
+      none_after [] = refl
+      none_after (n ∷ ns) = ap (λ xs. n ∷ xs) (none_after ns)
 
   pub way_to_record : (value : CidParts) → s ≡ sought.Record value → IsWay most stored key root after
   way_to_record value e = ends_here (subst (λ y. WayBelow (IsWay (most - (layer + 1)) stored key) y []) (sym e) refl)

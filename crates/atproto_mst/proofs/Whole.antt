@@ -2,7 +2,7 @@
 use Rattle.std.proofs.Common.{◌≡◌, ℕ, List, [], sym, ap, ◌∙◌, subst, inl, inr, ◌⊎◌, Result, Ok, Err, IfErr}
 use Rattle.std.specs.Prelude.{⊤}
 use Rattle.ipld_tree.specs.Cid.{CidParts}
-use Rattle.dagcbor_car.specs.Car.{Section}
+use Rattle.files_car.specs.Car.{Section}
 use Rattle.ipld_links.specs.Sets.{Among}
 use Rattle.atproto_mst.specs.Keys.{Entry, AreMstEntries}
 use Rattle.atproto_mst.specs.Trees.{Leaf, node, nodes, top_layer, leaves, mst, nodes_of}

@@ -7,8 +7,8 @@ use Rattle.dagcbor_write.specs.Trees.{field, option_tree}
 use Rattle.dagcbor_write.specs.Answers.{AreSpellingOf}
 use Rattle.atproto_mst.specs.Trees.{row_tree, node_map}
 use Rattle.atproto_mst.specs.Nodes.{tree_of_row, tree_of_node, row_told, node_told}
-use Rattle.repository_types.specs.declared.repository.Entry.{Entry}
-use Rattle.repository_types.specs.declared.repository.Node.{Node}
+use Rattle.types_repository.specs.declared.repository.Entry.{Entry}
+use Rattle.types_repository.specs.declared.repository.Node.{Node}
 
 abbrev pub link_written : Option CidParts → Option Tree
 link_written t = option_tree (λ c. Some (link (cid_bytes c))) t

@@ -3,7 +3,7 @@ use Rattle.std.specs.Prelude.{[], ◌∷◌, Option, Some, codes, pos, string_by
 use Rattle.ipld_tree.specs.Cid.{cid_bytes}
 use Rattle.ipld_tree.specs.Tree.{Tree, bytes, integer, link, text, entries_tree}
 use Rattle.dagcbor_write.specs.Trees.{field, option_tree}
-use Rattle.repository_types.specs.declared.repository.Commit.{Commit}
+use Rattle.types_repository.specs.declared.repository.Commit.{Commit}
 
 -- the map of a commit's fields
 abbrev pub commit_tree : Commit → Option Tree

@@ -7,8 +7,8 @@ use Rattle.ipld_tree.specs.Spelling.{IsSpelling}
 use Rattle.ipld_links.specs.Names.{block_name}
 use Rattle.ipld_links.specs.Reaching.{Stored}
 use Rattle.atproto_mst.specs.Trees.{row_tree, node_map}
-use Rattle.repository_types.specs.declared.repository.Entry.{Entry}
-use Rattle.repository_types.specs.declared.repository.Node.{Node}
+use Rattle.types_repository.specs.declared.repository.Entry.{Entry}
+use Rattle.types_repository.specs.declared.repository.Node.{Node}
 
 -- An entry of a node: how many bytes it shares with the key before it in the node, the rest of the
 -- key, its record, and the subtree between this key and the next.

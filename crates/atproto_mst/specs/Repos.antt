@@ -8,7 +8,7 @@ use Rattle.atproto_mst.specs.Commits.{commit_tree}
 use Rattle.atproto_mst.specs.UnreadCommits.{UnreadCommit}
 use Rattle.atproto_mst.specs.Entries.{entries, IsMst}
 use Rattle.atproto_mst.specs.Stops.{IsStoredNamed, MstRefused}
-use Rattle.repository_types.specs.declared.repository.Commit.{Commit}
+use Rattle.types_repository.specs.declared.repository.Commit.{Commit}
 use Rattle.atproto_mst.specs.declared.entries.MstEntry.{MstEntry}
 use Rattle.atproto_mst.specs.declared.error.MstError.TheVariants as tree
 use Rattle.atproto_mst.specs.declared.repo_error.RepoError.{RepoError}

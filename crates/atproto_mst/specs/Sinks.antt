@@ -1,6 +1,6 @@
 -- What sinks receive.
 use Rattle.std.specs.Prelude.{◌≡◌, ◌⊎◌, List, [], ◌∷◌, ◌++◌, is_some, if◌then◌else◌}
-use Rattle.dagcbor_car.specs.Car.{Section}
+use Rattle.files_car.specs.Car.{Section}
 use Rattle.ipld_links.specs.Sets.{Among}
 use Rattle.ipld_links.specs.Reaching.{Stored}
 use Rattle.atproto_mst.specs.declared.error.MstError.{MstError}

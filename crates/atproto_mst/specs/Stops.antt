@@ -39,13 +39,13 @@ RowFault previous before r _ = ⊥
 pub record IsRow (previous before : List ℕ) (r : NodeRow) : Type 0 where
   pub shares : r.shared ≤ length previous
   pub is_key : IsKey (key_of_row previous r)
-  pub behind : slice_cmp nat_cmp before (key_of_row previous r) ≡ Less
+  pub following : slice_cmp nat_cmp before (key_of_row previous r) ≡ Less
 
 -- the keys are valid, rise, and come after this one
-pub record ComeBehind (before : List ℕ) (es : List Entry) : Type 0 where
+pub record ComeAfter (before : List ℕ) (es : List Entry) : Type 0 where
   pub keys : HaveKeys es
   pub rise : Rise es
-  pub behind : ComesBefore before es
+  pub following : ComesBefore before es
 
 -- the key of the last entry, or this key if there are no entries
 abbrev pub last_entry_key : List ℕ → List Entry → List ℕ
@@ -55,25 +55,25 @@ last_entry_key before (e ∷ es) = last_entry_key e.0 es
 -- ---- the walk
 
 -- In the subtree under a link; or that subtree has no entry.
-abbrev pub StopsBehind : (CidParts → List Entry → Type 0) → (List ℕ → CidParts → MstError → Type 0)
+abbrev pub StopsAfter : (CidParts → List Entry → Type 0) → (List ℕ → CidParts → MstError → Type 0)
     → List ℕ → Option CidParts → MstError → Type 0
-StopsBehind W S before None e = ⊥
-StopsBehind W S before (Some name) e = S before name e ⊎ ((e ≡ error.OtherTree) × W name [])
+StopsAfter W S before None e = ⊥
+StopsAfter W S before (Some name) e = S before name e ⊎ ((e ≡ error.OtherTree) × W name [])
 
 -- At a row; else in the subtree after it; else at a later row.
 abbrev pub StopsInRows : (CidParts → List Entry → Type 0) → (List ℕ → CidParts → MstError → Type 0)
     → List ℕ → List ℕ → List NodeRow → MstError → Type 0
 StopsInRows W S before previous [] e = ⊥
 StopsInRows W S before previous (r ∷ rs) e = RowFault previous before r e
-    ⊎ (IsRow previous before r × (StopsBehind W S (key_of_row previous r) r.after e
-    ⊎ ((below : List Entry) × WalksLink W r.after below × ComeBehind (key_of_row previous r) below
+    ⊎ (IsRow previous before r × (StopsAfter W S (key_of_row previous r) r.after e
+    ⊎ ((below : List Entry) × WalksLink W r.after below × ComeAfter (key_of_row previous r) below
     × StopsInRows W S (last_entry_key (key_of_row previous r) below) (key_of_row previous r) rs e)))
 
 -- In the subtree before the first key; else at a row.
 abbrev pub StopsInNode : (CidParts → List Entry → Type 0) → (List ℕ → CidParts → MstError → Type 0)
     → List ℕ → NodeParts → MstError → Type 0
-StopsInNode W S before p e = StopsBehind W S before p.left e
-    ⊎ ((below : List Entry) × WalksLink W p.left below × ComeBehind before below
+StopsInNode W S before p e = StopsAfter W S before p.left e
+    ⊎ ((below : List Entry) × WalksLink W p.left below × ComeAfter before below
     × StopsInRows W S (last_entry_key before below) [] p.rows e)
 
 -- From this root, after this key, over at most the given number of nodes below each other.

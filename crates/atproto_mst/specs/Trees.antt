@@ -4,7 +4,7 @@ use Rattle.ipld_tree.specs.Cid.{CidParts, cid_bytes}
 use Rattle.ipld_tree.specs.Tree.{Tree, null, integer, bytes, list, mapping, link, no_entries, entry, items_of}
 use Rattle.ipld_tree.specs.Spelling.{spelling}
 use Rattle.ipld_links.specs.Names.{block_name}
-use Rattle.dagcbor_car.specs.Car.{Section}
+use Rattle.files_car.specs.Car.{Section}
 use Rattle.atproto_mst.specs.Keys.{Entry, key_layer}
 
 -- an entry, with the layer of its key

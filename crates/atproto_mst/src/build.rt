@@ -16,8 +16,8 @@ use crate::rows::spell_node;
 use crate::sink::NodeSink;
 use ipld_links::name_of_block;
 use ipld_tree::{Bytes, Cid};
-use repository_types::{Entry, Node};
 use std::alloc::{AllocError, Global};
+use types_repository::{Entry, Node};
 
 /// Hands over the nodes of the subtree over leaves that are all below the layer. Returns the CID of
 /// the last node, or `None` if there are no leaves.
@@ -91,10 +91,10 @@ fn name_rows<S: NodeSink>(
     let mut at = 0;
     while at < leaves.len() {
         let top = &leaves[at];
-        let behind = &leaves[at + 1..];
-        let count = count_lower(behind, layer);
+        let following = &leaves[at + 1..];
+        let count = count_lower(following, layer);
         rows.reserve(1)?;
-        let after = name_subtree(alloc, &behind[..count], layer, sink)?;
+        let after = name_subtree(alloc, &following[..count], layer, sink)?;
         let row = row_of(alloc, previous, top, after)?;
         rows.push_reserved(row);
         previous = top.key;

@@ -9,8 +9,8 @@ use crate::repo_error::RepoError;
 use dagcbor_core::DecodeError;
 use dagcbor_read::from_slice;
 use dagcbor_write::to_vec;
-use repository_types::{Commit, UnsignedCommit};
 use std::alloc::{AllocError, Global};
+use types_repository::{Commit, UnsignedCommit};
 
 /// Encodes the commit without its signature: the bytes that are signed.
 pub fn spell_unsigned(alloc: Global, commit: &Commit) -> Result<Vec<u8>, AllocError>

@@ -14,10 +14,10 @@ use crate::error::MstError;
 use crate::read::MOST_LAYERS;
 use crate::stored::node_at;
 use ipld_tree::Cid;
-use repository_types::Node;
 use std::alloc::{AllocError, Global};
 use std::cmp::Ordering;
 use std::collections::BTreeMap;
+use types_repository::Node;
 
 /// What a node says about a key.
 #[derive(Debug, Clone, Copy, Drop)]

@@ -18,9 +18,9 @@ use crate::error::MstError;
 use crate::stored::node_at;
 use ipld_links::CidSet;
 use ipld_tree::Cid;
-use repository_types::{Entry as Row, Node};
 use std::alloc::{AllocError, Global};
 use std::collections::BTreeMap;
+use types_repository::{Entry as Row, Node};
 
 /// An entry, and the subtree between its key and the next of the level.
 #[derive(Drop)]

@@ -7,11 +7,11 @@ ghost use Rattle.atproto_mst.specs.Keys.{Entry, IsKey};
 ghost use Rattle.atproto_mst.specs.Entries.{entries, IsMst};
 ghost use Rattle.atproto_mst.specs.Nodes.{row_told, node_told, key_of_row};
 ghost use Rattle.atproto_mst.specs.Walks.{WalksTree, WalksLink, WalksRows, WalksNode};
-ghost use Rattle.atproto_mst.specs.Stops.{RowFault, StopsWalk, StopsBehind, StopsInRows, StopsInNode};
+ghost use Rattle.atproto_mst.specs.Stops.{RowFault, StopsWalk, StopsAfter, StopsInRows, StopsInNode};
 ghost use Rattle.atproto_mst.specs.Stops.{MstRefused, last_entry_key};
 ghost use Rattle.atproto_mst.specs.InLayers.{first_layer, IsLayerRow, IfLinked, AreRowsOf, IsOfLayer};
 ghost use Rattle.atproto_mst.specs.InLayers.{IsEmpty, IsRightBelow};
-ghost use Rattle.atproto_mst.specs.Gathering.{GathersEntries, AddsRow, key_behind};
+ghost use Rattle.atproto_mst.specs.Gathering.{GathersEntries, AddsRow, key_after};
 ghost use Rattle.atproto_mst.specs.declared.error.MstError.TheVariants.{OutOfMemory};
 
 use crate::entries::{LONGEST_KEY, MstEntry};
@@ -19,9 +19,9 @@ use crate::error::MstError;
 use crate::keys::{layer_of_key, shared_front};
 use crate::stored::node_at;
 use ipld_tree::Cid;
-use repository_types::{Entry as Row, Node};
 use std::alloc::Global;
 use std::collections::BTreeMap;
+use types_repository::{Entry as Row, Node};
 
 /// The greatest number of nodes on a path from the root: one for each of the layers 0 to 128.
 pub(crate) const MOST_LAYERS: u8 = 129;
@@ -138,7 +138,7 @@ fn gather_below(
     ensures walked { OnOk result
         (GathersEntries (WalksLink (WalksTree layers (stored_in blocks.now)) link.now) found.old found.new) }
     ensures stopped { IfErr result (λ e. (e ≡ OutOfMemory)
-        ⊎ StopsBehind (WalksTree layers (stored_in blocks.now)) (StopsWalk layers (stored_in blocks.now))
+        ⊎ StopsAfter (WalksTree layers (stored_in blocks.now)) (StopsWalk layers (stored_in blocks.now))
         (last_entry_key [] (entries found.old.items)) link.now e) }
     ensures fits { IfOk result
         (λ fits. Decides fits (IfLinked (IsRightBelow (stored_in blocks.now) above) link.now)) }
@@ -197,14 +197,14 @@ fn add_row(
 ) -> Result<bool, MstError>
     requires { previous ≤ length found.old.items }
     ensures added { OnOk result
-        (AddsRow (row_told row.now) (key_behind previous found.old.items) found.old found.new) }
+        (AddsRow (row_told row.now) (key_after previous found.old.items) found.old found.new) }
     ensures stopped { IfErr result (λ e. (e ≡ OutOfMemory)
-        ⊎ RowFault (key_behind previous found.old.items)
+        ⊎ RowFault (key_after previous found.old.items)
         (last_entry_key [] (entries found.old.items))
         (row_told row.now) e) }
     ensures fits { IfOk result
         (λ fits. Decides fits
-        (IsLayerRow layer (key_behind previous found.old.items) (row_told row.now))) }
+        (IsLayerRow layer (key_after previous found.old.items) (row_told row.now))) }
 {
     let before = key_of_last(&found[..previous]);
     let key = make_key(alloc, before, row)?;

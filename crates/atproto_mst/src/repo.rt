@@ -3,7 +3,7 @@
 ghost use Rattle.std.specs.Prelude.{◌≡◌, List, IfOk, IfErr};
 ghost use Rattle.ipld_links.specs.Reaching.{stored_in};
 ghost use Rattle.atproto_mst.specs.Repos.{IsRepo, RepoRefused, IsStoredCommit, CommitRefused};
-ghost use Rattle.repository_types.specs.declared.repository.Commit.{Commit};
+ghost use Rattle.types_repository.specs.declared.repository.Commit.{Commit};
 ghost use Rattle.atproto_mst.specs.declared.entries.MstEntry.{MstEntry};
 ghost use Rattle.atproto_mst.specs.declared.repo_error.RepoError.TheVariants.{OutOfMemory};
 
@@ -14,9 +14,9 @@ use crate::read::read_mst;
 use crate::repo_error::RepoError;
 use ipld_links::{name_of_block, stored_bytes};
 use ipld_tree::Cid;
-use repository_types::Commit;
 use std::alloc::Global;
 use std::collections::BTreeMap;
+use types_repository::Commit;
 
 /// The only version of commits that is read.
 const VERSION: u8 = 3;

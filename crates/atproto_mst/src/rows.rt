@@ -11,8 +11,8 @@ use dagcbor_core::DecodeError;
 use dagcbor_read::from_slice;
 use dagcbor_write::to_vec;
 use ipld_tree::Cid;
-use repository_types::{Entry, Node};
 use std::alloc::{AllocError, Global};
+use types_repository::{Entry, Node};
 
 /// Decodes a block as a node. Returns `None` if it is not one, such as a map with other fields.
 pub(crate) fn read_node(alloc: Global, block: &[u8]) -> Result<Option<Node>, AllocError>

@@ -1,7 +1,7 @@
 //! Receivers of a tree's nodes.
 
 ghost use Rattle.std.specs.Prelude.{◌≡◌, [], ◌∷◌, List, OnOk, IfErr};
-ghost use Rattle.dagcbor_car.specs.Car.{Section};
+ghost use Rattle.files_car.specs.Car.{Section};
 ghost use Rattle.atproto_mst.specs.Sinks.{HandsOver, RefusesOne};
 
 use crate::error::MstError;

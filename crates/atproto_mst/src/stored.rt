@@ -10,9 +10,9 @@ use crate::error::MstError;
 use crate::rows::read_node;
 use ipld_links::{name_of_block, stored_bytes};
 use ipld_tree::Cid;
-use repository_types::Node;
 use std::alloc::Global;
 use std::collections::BTreeMap;
+use types_repository::Node;
 
 /// Reads the node that is stored under this CID, and checks that its bytes match the CID.
 pub(crate) fn node_at(

@@ -1,7 +1,7 @@
 //! The nodes of a tree that are not stored yet.
 
 ghost use Rattle.std.specs.Prelude.{◌≡◌, ◌⊎◌, List, ◌++◌, None, IfOk, OnOk, IfErr};
-ghost use Rattle.dagcbor_car.specs.Car.{Section};
+ghost use Rattle.files_car.specs.Car.{Section};
 ghost use Rattle.ipld_links.specs.Reaching.{stored_in, Stored};
 ghost use Rattle.atproto_mst.specs.Keys.{AreMstEntries};
 ghost use Rattle.atproto_mst.specs.Trees.{root_of, nodes_of};

@@ -11,7 +11,7 @@ use Rattle.dag_pb.specs.declared.error.PbCause.TheVariants.{InvalidCid}
 use Rattle.dag_pb.specs.declared.stop.Stop.{Stop}
 use Rattle.dag_pb.specs.Causes.{StopsIn}
 use Rattle.dag_pb.proofs.Varints.{one_varint}
-use Rattle.dag_pb.proofs.Stopping.{stops_behind}
+use Rattle.dag_pb.proofs.Stopping.{stops_after}
 
 -- ---- the field at the front
 
@@ -59,19 +59,19 @@ other_bytes t n b rest h other p r (c, i, k) = other (one_varint b n t rest c h 
 pub no_counted_bytes : (t : ℕ) (b rest : List ℕ) → BeginsWithVarint b t rest → BeginsNoCounted rest → BeginsNoBytes t b
 no_counted_bytes t b rest h none p r (c, i, k) = none p r (subst (λ x. BeginsWithVarint x (length p) (p ++ r)) (sym (one_varint b t t rest c h i).1) k)
 
-pub stops_behind_varint : (b : List ℕ) (n : ℕ) (rest : List ℕ) (stop : Stop) → BeginsWithVarint b n rest → StopsIn rest stop → StopsIn b stop
-stops_behind_varint b n rest stop (form, v, e) h = stops_behind b form rest stop e h
+pub stops_after_varint : (b : List ℕ) (n : ℕ) (rest : List ℕ) (stop : Stop) → BeginsWithVarint b n rest → StopsIn rest stop → StopsIn b stop
+stops_after_varint b n rest stop (form, v, e) h = stops_after b form rest stop e h
 
 -- ---- the CID
 
 pub no_hash : (b : List ℕ) → BeginsNoBytes 0x0a b → (link : LinkParts) → IsLink b link → ⊥
-no_hash b none link h = none (cid_bytes link.hash) h.behind h.hash
+no_hash b none link h = none (cid_bytes link.hash) h.following h.hash
 
 pub no_hash_in_nothing : (b : List ℕ) → b ≡ [] → (link : LinkParts) → IsLink b link → ⊥
 no_hash_in_nothing b e = no_hash b (no_bytes 0x0a b (subst BeginsNoVarint (sym e) none_in_nothing))
 
 pub no_cid : (b form rest : List ℕ) → BeginsWithBytes 0x0a b form rest → (IsCid form → ⊥) → (link : LinkParts) → IsLink b link → ⊥
-no_cid b form rest h none link k = none (link.hash, k.valid, (one_bytes b 0x0a 0x0a form (cid_bytes link.hash) rest k.behind h k.hash).1)
+no_cid b form rest h none link k = none (link.hash, k.valid, (one_bytes b 0x0a 0x0a form (cid_bytes link.hash) rest k.following h k.hash).1)
 
 pub stops_at_cid : (b form rest : List ℕ) (fault : CidError) → BeginsWithBytes 0x0a b form rest → IsFault fault form → StopsIn b (record { cause = InvalidCid fault; left = length form + length rest })
 stops_at_cid b form rest fault h f = let k = bytes_parts 0x0a b form rest h in (k.0, form, rest, k.1, refl, f)
@@ -103,8 +103,8 @@ more_size b c rest n h k there (Some m) (d, i, j) =
     let same = one_varint b 0x18 0x18 c d h i in
     there (one_varint c n m rest [] k (subst (λ x. BeginsWithVarint x m []) (sym same.1) j)).1
 
-pub stops_behind_two : (b c rest : List ℕ) (m n : ℕ) (stop : Stop) → BeginsWithVarint b m c → BeginsWithVarint c n rest → StopsIn rest stop → StopsIn b stop
-stops_behind_two b c rest m n stop h k s = stops_behind_varint b m c stop h (stops_behind_varint c n rest stop k s)
+pub stops_after_two : (b c rest : List ℕ) (m n : ℕ) (stop : Stop) → BeginsWithVarint b m c → BeginsWithVarint c n rest → StopsIn rest stop → StopsIn b stop
+stops_after_two b c rest m n stop h k s = stops_after_varint b m c stop h (stops_after_varint c n rest stop k s)
 
 pub whole_size : (b c rest : List ℕ) (n : ℕ) → BeginsWithVarint b 0x18 c → BeginsWithVarint c n rest → rest ≡ [] → MayBeNumber 0x18 b (Some n)
 whole_size b c rest n h k e = (c, h, subst (BeginsWithVarint c n) e k)
@@ -141,18 +141,18 @@ may_parts t b None r e = ([], e)
 may_parts t b (Some name) r h = let k = bytes_parts t b name r h in (k.0 ++ name, k.1 ∙ sym (append_assoc k.0 name r))
 
 pub stops_in_size : (b : List ℕ) (name : Option (List ℕ)) (rest : List ℕ) (stop : Stop) → MayBeginWithBytes 0x12 b name rest → StopsIn rest stop → StopsIn b stop
-stops_in_size b name rest stop h s = let k = may_parts 0x12 b name rest h in stops_behind b k.0 rest stop k.1 s
+stops_in_size b name rest stop h s = let k = may_parts 0x12 b name rest h in stops_after b k.0 rest stop k.1 s
 
 pub no_size_end : (b rest : List ℕ) → HasOneEnd b rest → IsNoSize rest → IsNoLinkEnd b
 no_size_end b rest one none name size (r, h, k) = none size (subst (λ x. MayBeNumber 0x18 x size) (one name size r h k) k)
 
 pub link_read : (b form rest : List ℕ) (link : LinkParts) → BeginsWithBytes 0x0a b form rest → AreCidParts link.hash × (form ≡ cid_bytes link.hash) → IsLinkEnd rest link.name link.tsize → IsLink b link
-link_read b form rest link h valid e = record { behind = rest; valid = valid.0; hash = subst (λ x. BeginsWithBytes 0x0a b x rest) valid.1 h; ends = e }
+link_read b form rest link h valid e = record { following = rest; valid = valid.0; hash = subst (λ x. BeginsWithBytes 0x0a b x rest) valid.1 h; ends = e }
 
 pub no_end : (b form rest : List ℕ) → BeginsWithBytes 0x0a b form rest → IsNoLinkEnd rest → (link : LinkParts) → IsLink b link → ⊥
-no_end b form rest h none link k = none link.name link.tsize (subst (λ x. IsLinkEnd x link.name link.tsize) (sym (one_bytes b 0x0a 0x0a form (cid_bytes link.hash) rest k.behind h k.hash).2) k.ends)
+no_end b form rest h none link k = none link.name link.tsize (subst (λ x. IsLinkEnd x link.name link.tsize) (sym (one_bytes b 0x0a 0x0a form (cid_bytes link.hash) rest k.following h k.hash).2) k.ends)
 
-pub stops_behind_hash : (b form rest : List ℕ) (stop : Stop) → BeginsWithBytes 0x0a b form rest → StopsIn rest stop → StopsIn b stop
-stops_behind_hash b form rest stop h s =
+pub stops_after_hash : (b form rest : List ℕ) (stop : Stop) → BeginsWithBytes 0x0a b form rest → StopsIn rest stop → StopsIn b stop
+stops_after_hash b form rest stop h s =
     let k = bytes_parts 0x0a b form rest h in
-    stops_behind b (k.0 ++ form) rest stop (k.1 ∙ sym (append_assoc k.0 form rest)) s
+    stops_after b (k.0 ++ form) rest stop (k.1 ∙ sym (append_assoc k.0 form rest)) s

@@ -19,13 +19,13 @@ orders-append (Some o) (f ∷ fs) gs = orders-append (order_after o f) fs gs
 
 -- ---- the fields of a node have an order
 
-behind_links : (ls : List LinkParts) → orders (Some Links) (map link_field ls) ≡ Some Links
-behind_links [] = refl
-behind_links (l ∷ ls) = behind_links ls
+after_links : (ls : List LinkParts) → orders (Some Links) (map link_field ls) ≡ Some Links
+after_links [] = refl
+after_links (l ∷ ls) = after_links ls
 
-behind_data : (ls : List LinkParts) → orders (Some DataFirst) (map link_field ls) ≡ Some DataFirst
-behind_data [] = refl
-behind_data (l ∷ ls) = behind_data ls
+after_data : (ls : List LinkParts) → orders (Some DataFirst) (map link_field ls) ≡ Some DataFirst
+after_data [] = refl
+after_data (l ∷ ls) = after_data ls
 
 abbrev HasOrder : List Field → Type 0
 HasOrder fs = (o : Order) × (orders (Some Nothing) fs ≡ Some o)
@@ -33,13 +33,13 @@ HasOrder fs = (o : Order) × (orders (Some Nothing) fs ≡ Some o)
 links_first : (ls : List LinkParts) (d : Option (List ℕ)) → HasOrder (map link_field ls ++ data_fields d)
 links_first [] None = (Nothing, refl)
 links_first [] (Some inner) = (DataFirst, refl)
-links_first (l ∷ ls) None = (Links, orders-append (Some Links) (map link_field ls) [] ∙ ap (λ o. orders o []) (behind_links ls))
-links_first (l ∷ ls) (Some inner) = (DataLast, orders-append (Some Links) (map link_field ls) (data_field inner ∷ []) ∙ ap (λ o. orders o (data_field inner ∷ [])) (behind_links ls))
+links_first (l ∷ ls) None = (Links, orders-append (Some Links) (map link_field ls) [] ∙ ap (λ o. orders o []) (after_links ls))
+links_first (l ∷ ls) (Some inner) = (DataLast, orders-append (Some Links) (map link_field ls) (data_field inner ∷ []) ∙ ap (λ o. orders o (data_field inner ∷ [])) (after_links ls))
 
 data_first : (ls : List LinkParts) (d : Option (List ℕ)) → HasOrder (data_fields d ++ map link_field ls)
 data_first [] None = (Nothing, refl)
-data_first (l ∷ ls) None = (Links, behind_links ls)
-data_first ls (Some inner) = (DataFirst, behind_data ls)
+data_first (l ∷ ls) None = (Links, after_links ls)
+data_first ls (Some inner) = (DataFirst, after_data ls)
 
 pub node_order : (fs : List Field) (node : NodeParts) → AreFieldsOf fs node → HasOrder fs
 node_order fs node (inl e) = subst HasOrder (sym e) (links_first node.links node.«data»)
@@ -47,9 +47,9 @@ node_order fs node (inr e) = subst HasOrder (sym e) (data_first node.links node.
 
 -- ---- fields that have an order are a node
 
-nothing_behind : (fs : List Field) (o : Order) → orders (Some DataLast) fs ≡ Some o → fs ≡ []
-nothing_behind [] o e = refl
-nothing_behind (f ∷ fs) o e = absurd (cc e)
+nothing_after : (fs : List Field) (o : Order) → orders (Some DataLast) fs ≡ Some o → fs ≡ []
+nothing_after [] o e = refl
+nothing_after (f ∷ fs) o e = absurd (cc e)
 
 all_links : (fs : List Field) (o : Order) → orders (Some DataFirst) fs ≡ Some o → fs ≡ map link_field (links_in fs)
 all_links [] o e = refl
@@ -59,7 +59,7 @@ all_links (data_field d ∷ fs) o e = absurd (cc e)
 links_then_data : (fs : List Field) (o : Order) → orders (Some Links) fs ≡ Some o → (d : Option (List ℕ)) × (fs ≡ map link_field (links_in fs) ++ data_fields d)
 links_then_data [] o e = (None, refl)
 links_then_data (link_field l ∷ fs) o e = let k = links_then_data fs o e in (k.0, ap (λ x. link_field l ∷ x) k.1)
-links_then_data (data_field d ∷ fs) o e = let none = nothing_behind fs o e in (Some d, subst (λ x. data_field d ∷ x ≡ map link_field (links_in x) ++ data_fields (Some d)) (sym none) refl)
+links_then_data (data_field d ∷ fs) o e = let none = nothing_after fs o e in (Some d, subst (λ x. data_field d ∷ x ≡ map link_field (links_in x) ++ data_fields (Some d)) (sym none) refl)
 
 pub order_node : (fs : List Field) (o : Order) → orders (Some Nothing) fs ≡ Some o → (node : NodeParts) × AreFieldsOf fs node
 order_node [] o e = (record { links = []; «data» = None }, inl refl)
@@ -79,10 +79,10 @@ links_before [] None = refl
 links_before [] (Some inner) = refl
 links_before (l ∷ ls) d = ap (λ x. l ∷ x) (links_before ls d)
 
-links_behind : (ls : List LinkParts) (d : Option (List ℕ)) → links_in (data_fields d ++ map link_field ls) ≡ ls
-links_behind ls None = links_of_links ls
-links_behind ls (Some inner) = links_of_links ls
+links_after : (ls : List LinkParts) (d : Option (List ℕ)) → links_in (data_fields d ++ map link_field ls) ≡ ls
+links_after ls None = links_of_links ls
+links_after ls (Some inner) = links_of_links ls
 
 pub node_links_in : (fs : List Field) (node : NodeParts) → AreFieldsOf fs node → links_in fs ≡ node.links
 node_links_in fs node (inl e) = ap links_in e ∙ links_before node.links node.«data»
-node_links_in fs node (inr e) = ap links_in e ∙ links_behind node.links node.«data»
+node_links_in fs node (inr e) = ap links_in e ∙ links_after node.links node.«data»

@@ -3,7 +3,7 @@ use Rattle.std.proofs.Common.{◌≡◌, ℕ, ◌+◌, ◌<◌, ◌≤◌, List,
 use Rattle.std.proofs.lemmas.List.{take_more, map-append}
 use Rattle.std.proofs.lemmas.Grind.{flat_map-append}
 use Rattle.lent_memory.specs.Puts.{put_at, with_front, PutsAt}
-use Rattle.lent_memory.proofs.Putting.{put_behind, overwritten_where_room}
+use Rattle.lent_memory.proofs.Putting.{put_after, overwritten_where_room}
 use Rattle.dag_pb.specs.Reads.{link_of, node_of}
 use Rattle.dag_pb.specs.Spelling.{link_spelling, data_field_bytes, node_spelling}
 use Rattle.dag_pb.specs.declared.link.PbLink.{PbLink}
@@ -36,7 +36,7 @@ link_room xs i d inner at old now h room place stands =
 put_next : (bs s old now new : List ℕ) (at end : ℕ) → length bs + length s ≤ length old → at ≡ length bs → now ≡ bs ++ drop (length bs) old → PutsAt s at now new end → (end ≡ length (bs ++ s)) × (new ≡ (bs ++ s) ++ drop (length (bs ++ s)) old)
 put_next bs s old now new at end room place stands p = (
   omega (arith, p.0, place, length-append bs s),
-  p.1 ∙ ap (λ n. put_at n s now) place ∙ ap (put_at (length bs) s) stands ∙ put_behind bs s old room,
+  p.1 ∙ ap (λ n. put_at n s now) place ∙ ap (put_at (length bs) s) stands ∙ put_after bs s old room,
 )
 
 one_put : (xs : List PbLink) (i : ℕ) (d : PbLink) (inner : Option (List ℕ)) (at end : ℕ) (old now new : List ℕ) → i < length xs → length (node_spelling (node_of xs inner)) ≤ length old → at ≡ length (first_links xs i) → now ≡ first_links xs i ++ drop (length (first_links xs i)) old → PutsAt (link_spelling (link_of (get_or xs i d))) at now new end

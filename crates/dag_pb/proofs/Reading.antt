@@ -18,10 +18,10 @@ pub record IsReadTo (b : List ℕ) (order : Order) (rest : List ℕ) : Type 0 wh
 pub none_read : (b : List ℕ) → IsReadTo b Nothing b
 none_read b = record { before = []; row = refl; order_is = refl }
 
-pub one_read : (b : List ℕ) (order next : Order) (rest behind : List ℕ) (f : Field) → IsReadTo b order rest → BeginsWithField rest f behind → ◌≡◌ {A = Option Order} (Some next) (order_after order f) → IsReadTo b next behind
-one_read b order next rest behind f r h e = record {
+pub one_read : (b : List ℕ) (order next : Order) (rest following : List ℕ) (f : Field) → IsReadTo b order rest → BeginsWithField rest f following → ◌≡◌ {A = Option Order} (Some next) (order_after order f) → IsReadTo b next following
+one_read b order next rest following f r h e = record {
   before = r.before ++ f ∷ [];
-  row = row_end b r.before rest f behind r.row h;
+  row = row_end b r.before rest f following r.row h;
   order_is = orders-append (Some Nothing) r.before (f ∷ []) ∙ ap (λ o. orders o (f ∷ [])) r.order_is ∙ ap (λ o. orders o []) (sym e);
 }
 
@@ -38,11 +38,11 @@ no_node b order rest r there none (node, (fields, row, is)) =
     none first.0 first.2 first.4
 
 -- if the next field may not come there, the whole is not a node
-pub no_node_so : (b : List ℕ) (order : Order) (rest behind : List ℕ) (f : Field) → IsReadTo b order rest → rest ≢ [] → BeginsWithField rest f behind → ◌≡◌ {A = Option Order} None (order_after order f) → HasNode b → ⊥
-no_node_so b order rest behind f r there h none (node, (fields, row, is)) =
+pub no_node_so : (b : List ℕ) (order : Order) (rest following : List ℕ) (f : Field) → IsReadTo b order rest → rest ≢ [] → BeginsWithField rest f following → ◌≡◌ {A = Option Order} None (order_after order f) → HasNode b → ⊥
+no_node_so b order rest following f r there h none (node, (fields, row, is)) =
     let left = row_left b r.before fields rest r.row row in
     let first = row_first rest left.0 there left.2 in
-    let same = (one_field rest first.0 f first.2 behind first.4 h).0 in
+    let same = (one_field rest first.0 f first.2 following first.4 h).0 in
     let has = node_order fields node is in
     let stuck : orders (Some Nothing) fields ≡ None =
     ap (orders (Some Nothing)) (left.1 ∙ ap (λ x. r.before ++ x) (first.3 ∙ ap (λ g. g ∷ first.1) same))
@@ -54,10 +54,10 @@ no_node_so b order rest behind f r there h none (node, (fields, row, is)) =
 -- ---- the links
 
 -- the field at the front is the first of the row
-pub field_found : (b : List ℕ) (field : Field) (behind : List ℕ) (row : List Field) → BeginsWithField b field behind → BeginsWithFields b row [] → (more : List Field) × BeginsWithFields behind more [] × (row ≡ field ∷ more)
-field_found b field behind row h k =
-    let first = row_first b row (field_there b field behind h) k in
-    let one = one_field b first.0 field first.2 behind first.4 h in
+pub field_found : (b : List ℕ) (field : Field) (following : List ℕ) (row : List Field) → BeginsWithField b field following → BeginsWithFields b row [] → (more : List Field) × BeginsWithFields following more [] × (row ≡ field ∷ more)
+field_found b field following row h k =
+    let first = row_first b row (field_there b field following h) k in
+    let one = one_field b first.0 field first.2 following first.4 h in
     (first.1, subst (λ x. BeginsWithFields x first.1 []) one.1 first.5, first.3 ∙ ap (λ g. g ∷ first.1) one.0)
 
 -- if the bytes are fields, the rest is fields with the same links
@@ -68,16 +68,16 @@ HasSameLinks b rest = (row : List Field) → BeginsWithFields b row []
 pub same_links : (b : List ℕ) → HasSameLinks b b
 same_links b row h = (row, h, refl)
 
-pub data_passed : (b rest behind inner : List ℕ) → HasSameLinks b rest → BeginsWithField rest (data_field inner) behind → HasSameLinks b behind
-data_passed b rest behind inner same h row k =
+pub data_passed : (b rest following inner : List ℕ) → HasSameLinks b rest → BeginsWithField rest (data_field inner) following → HasSameLinks b following
+data_passed b rest following inner same h row k =
     let s = same row k in
-    let found = field_found rest (data_field inner) behind s.0 h s.1 in
+    let found = field_found rest (data_field inner) following s.0 h s.1 in
     (found.0, found.1, s.2 ∙ ap links_in found.2)
 
-pub link_found : (b rest behind : List ℕ) (link : LinkParts) → HasSameLinks b rest → BeginsWithField rest (link_field link) behind → (row : List Field) → BeginsWithFields b row [] → (more : List Field) × BeginsWithFields behind more [] × (links_in row ≡ link ∷ links_in more)
-link_found b rest behind link same h row k =
+pub link_found : (b rest following : List ℕ) (link : LinkParts) → HasSameLinks b rest → BeginsWithField rest (link_field link) following → (row : List Field) → BeginsWithFields b row [] → (more : List Field) × BeginsWithFields following more [] × (links_in row ≡ link ∷ links_in more)
+link_found b rest following link same h row k =
     let s = same row k in
-    let found = field_found rest (link_field link) behind s.0 h s.1 in
+    let found = field_found rest (link_field link) following s.0 h s.1 in
     (found.0, found.1, s.2 ∙ ap links_in found.2)
 
 pub none_left : (b rest : List ℕ) → HasSameLinks b rest → rest ≡ [] → (row : List Field) → BeginsWithFields b row [] → links_in row ≡ []

@@ -12,7 +12,7 @@ use Rattle.dag_pb.specs.declared.error.PbCause.TheVariants.{UnexpectedField}
 use Rattle.dag_pb.specs.declared.stop.Stop.{Stop}
 use Rattle.dag_pb.specs.Causes.{StopsIn, CauseIn}
 use Rattle.dag_pb.proofs.Varints.{one_varint}
-use Rattle.dag_pb.proofs.Stopping.{stops_here, stops_behind}
+use Rattle.dag_pb.proofs.Stopping.{stops_here, stops_after}
 use Rattle.dag_pb.proofs.Fields.{varint_there, one_bytes, bytes_parts, no_bytes, other_bytes, no_counted_bytes, other_size}
 
 -- ---- one field
@@ -21,31 +21,31 @@ pub no_field : (b : List ℕ) → BeginsNoVarint b → BeginsNoField b
 no_field b none (link_field link) rest (message, h, l) = no_bytes 0x12 b none message rest h
 no_field b none (data_field inner) rest h = no_bytes 0x0a b none inner rest h
 
-pub other_field : (b : List ℕ) (n : ℕ) (behind : List ℕ) → BeginsWithVarint b n behind → n ≢ 0x0a → n ≢ 0x12 → BeginsNoField b
-other_field b n behind h a l (link_field link) rest (message, k, m) = other_bytes 0x12 n b behind h l message rest k
-other_field b n behind h a l (data_field inner) rest k = other_bytes 0x0a n b behind h a inner rest k
+pub other_field : (b : List ℕ) (n : ℕ) (following : List ℕ) → BeginsWithVarint b n following → n ≢ 0x0a → n ≢ 0x12 → BeginsNoField b
+other_field b n following h a l (link_field link) rest (message, k, m) = other_bytes 0x12 n b following h l message rest k
+other_field b n following h a l (data_field inner) rest k = other_bytes 0x0a n b following h a inner rest k
 
-pub no_data_field : (b behind : List ℕ) → BeginsWithVarint b 0x0a behind → BeginsNoCounted behind → BeginsNoField b
-no_data_field b behind h none (link_field link) rest (message, k, m) = other_bytes 0x12 0x0a b behind h (λ e. absurd (omega (arith, e))) message rest k
-no_data_field b behind h none (data_field inner) rest k = no_counted_bytes 0x0a b behind h none inner rest k
+pub no_data_field : (b following : List ℕ) → BeginsWithVarint b 0x0a following → BeginsNoCounted following → BeginsNoField b
+no_data_field b following h none (link_field link) rest (message, k, m) = other_bytes 0x12 0x0a b following h (λ e. absurd (omega (arith, e))) message rest k
+no_data_field b following h none (data_field inner) rest k = no_counted_bytes 0x0a b following h none inner rest k
 
-pub no_message : (b behind : List ℕ) → BeginsWithVarint b 0x12 behind → BeginsNoCounted behind → BeginsNoField b
-no_message b behind h none (link_field link) rest (message, k, m) = no_counted_bytes 0x12 b behind h none message rest k
-no_message b behind h none (data_field inner) rest k = other_bytes 0x0a 0x12 b behind h (λ e. absurd (omega (arith, e))) inner rest k
+pub no_message : (b following : List ℕ) → BeginsWithVarint b 0x12 following → BeginsNoCounted following → BeginsNoField b
+no_message b following h none (link_field link) rest (message, k, m) = no_counted_bytes 0x12 b following h none message rest k
+no_message b following h none (data_field inner) rest k = other_bytes 0x0a 0x12 b following h (λ e. absurd (omega (arith, e))) inner rest k
 
-pub no_link_field : (b message behind : List ℕ) → BeginsWithBytes 0x12 b message behind → ((link : LinkParts) → IsLink message link → ⊥) → BeginsNoField b
-no_link_field b message behind h none (link_field link) rest (other, k, m) = none link (subst (λ x. IsLink x link) (sym (one_bytes b 0x12 0x12 message other behind rest h k).1) m)
-no_link_field b message behind h none (data_field inner) rest k = absurd (omega (arith, (one_bytes b 0x12 0x0a message inner behind rest h k).0))
+pub no_link_field : (b message following : List ℕ) → BeginsWithBytes 0x12 b message following → ((link : LinkParts) → IsLink message link → ⊥) → BeginsNoField b
+no_link_field b message following h none (link_field link) rest (other, k, m) = none link (subst (λ x. IsLink x link) (sym (one_bytes b 0x12 0x12 message other following rest h k).1) m)
+no_link_field b message following h none (data_field inner) rest k = absurd (omega (arith, (one_bytes b 0x12 0x0a message inner following rest h k).0))
 
 -- a stop in a link's message is a stop in the whole
-pub stops_in_message : (b message behind : List ℕ) (stop : Stop) → BeginsWithBytes 0x12 b message behind → StopsIn message stop → StopsIn b (record { cause = stop.cause; left = stop.left + length behind })
-stops_in_message b message behind stop h (before, at, rest, is, left, cause) =
-    let k = bytes_parts 0x12 b message behind h in (
+pub stops_in_message : (b message following : List ℕ) (stop : Stop) → BeginsWithBytes 0x12 b message following → StopsIn message stop → StopsIn b (record { cause = stop.cause; left = stop.left + length following })
+stops_in_message b message following stop h (before, at, rest, is, left, cause) =
+    let k = bytes_parts 0x12 b message following h in (
       k.0 ++ before,
       at,
-      rest ++ behind,
-      k.1 ∙ ap (λ m. k.0 ++ (m ++ behind)) is ∙ ap (λ x. k.0 ++ x) (append_assoc before (at ++ rest) behind ∙ ap (λ x. before ++ x) (append_assoc at rest behind)) ∙ sym (append_assoc k.0 before (at ++ (rest ++ behind))),
-      omega (arith, left, length-append rest behind),
+      rest ++ following,
+      k.1 ∙ ap (λ m. k.0 ++ (m ++ following)) is ∙ ap (λ x. k.0 ++ x) (append_assoc before (at ++ rest) following ∙ ap (λ x. before ++ x) (append_assoc at rest following)) ∙ sym (append_assoc k.0 before (at ++ (rest ++ following))),
+      omega (arith, left, length-append rest following),
       cause,
     )
 
@@ -69,9 +69,9 @@ one_link_end b (Some x) (Some y) s t (r, i, h) (q, j, k) =
 
 pub one_link : (b : List ℕ) (k l : LinkParts) → IsLink b k → IsLink b l → k ≡ l
 one_link b k l h i =
-    let same = one_bytes b 0x0a 0x0a (cid_bytes k.hash) (cid_bytes l.hash) h.behind i.behind h.hash i.hash in
+    let same = one_bytes b 0x0a 0x0a (cid_bytes k.hash) (cid_bytes l.hash) h.following i.following h.hash i.hash in
     let hash = cid_unique k.hash l.hash h.valid i.valid same.1 in
-    let ends = one_link_end h.behind k.name l.name k.tsize l.tsize h.ends (subst (λ x. IsLinkEnd x l.name l.tsize) (sym same.2) i.ends) in
+    let ends = one_link_end h.following k.name l.name k.tsize l.tsize h.ends (subst (λ x. IsLinkEnd x l.name l.tsize) (sym same.2) i.ends) in
     λ j. record { hash = hash j; name = ends.0 j; tsize = ends.1 j }
 
 pub one_field : (b : List ℕ) (f g : Field) (r s : List ℕ) → BeginsWithField b f r → BeginsWithField b g s → (f ≡ g) × (r ≡ s)
@@ -105,8 +105,8 @@ field_shorter b (data_field p) r h = bytes_shorter 0x0a b p r h
 -- the bytes after a link are shorter than the whole by more than its CID
 pub link_shorter : (b : List ℕ) (link : LinkParts) (r : List ℕ) → BeginsWithField b (link_field link) r → length (cid_bytes link.hash) + length r < length b
 link_shorter b link r (m, (c, (f, v, e), (g, w, d)), l) =
-    let k = bytes_parts 0x0a m (cid_bytes link.hash) l.behind l.hash in
-    omega (arith, ap length e, length-append f c, ap length d, length-append g (m ++ r), length-append m r, form_some f v.groups, ap length k.1, length-append k.0 (cid_bytes link.hash ++ l.behind), length-append (cid_bytes link.hash) l.behind)
+    let k = bytes_parts 0x0a m (cid_bytes link.hash) l.following l.hash in
+    omega (arith, ap length e, length-append f c, ap length d, length-append g (m ++ r), length-append m r, form_some f v.groups, ap length k.1, length-append k.0 (cid_bytes link.hash ++ l.following), length-append (cid_bytes link.hash) l.following)
 
 field_parts : (b : List ℕ) (f : Field) (r : List ℕ) → BeginsWithField b f r → (front : List ℕ) × (b ≡ front ++ r)
 field_parts b (link_field k) r (m, h, l) = let s = bytes_parts 0x12 b m r h in (s.0 ++ m, s.1 ∙ sym (append_assoc s.0 m r))
@@ -144,7 +144,7 @@ row_over b [] e h = refl
 row_over b (g ∷ gs) e (c, h, k) = absurd (field_there b g c h e)
 
 pub stops_in_row : (b : List ℕ) (fs : List Field) (rest : List ℕ) (stop : Stop) → BeginsWithFields b fs rest → StopsIn rest stop → StopsIn b stop
-stops_in_row b fs rest stop h s = let k = row_parts b fs rest h in stops_behind b k.0 rest stop k.1 s
+stops_in_row b fs rest stop h s = let k = row_parts b fs rest h in stops_after b k.0 rest stop k.1 s
 
 pub stops_at_field : (b : List ℕ) (f : Field) (more : List ℕ) (tag : ℕ) (stop : Stop) → BeginsWithField b f more → tag ≡ field_tag f → stop ≡ record { cause = UnexpectedField tag; left = length b } → StopsIn b stop
 stops_at_field b f more tag stop h is e =
@@ -152,7 +152,7 @@ stops_at_field b f more tag stop h is e =
     stops_here b (UnexpectedField tag) stop e (k.0, subst (λ n. BeginsWithVarint b n k.0) (sym is) k.1)
 
 pub left_fits : (b : List ℕ) (cause : PbCause) (left : ℕ) → CauseIn cause b left → left ≤ length b
-left_fits b cause left (before, at, behind, is, e, h) = omega (arith, ap length is, length-append before (at ++ behind), length-append at behind, e)
+left_fits b cause left (before, at, following, is, e, h) = omega (arith, ap length is, length-append before (at ++ following), length-append at following, e)
 
 -- a row that is the whole is one
 pub one_row : (b : List ℕ) (fs gs : List Field) → BeginsWithFields b fs [] → BeginsWithFields b gs [] → fs ≡ gs

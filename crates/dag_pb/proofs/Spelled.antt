@@ -79,7 +79,7 @@ link_is link s =
     let whole = length-append (bytes_field 0x0a (cid_bytes link.hash)) (name_field link.name ++ tsize_field link.tsize) in
     let ends = length-append (name_field link.name) (tsize_field link.tsize) in
     record {
-      behind = name_field link.name ++ tsize_field link.tsize;
+      following = name_field link.name ++ tsize_field link.tsize;
       valid = s.valid;
       hash = bytes_begin 0x0a (cid_bytes link.hash) (name_field link.name ++ tsize_field link.tsize) (omega arith) (omega (arith, field_shorter 0x0a (cid_bytes link.hash), whole, fits));
       ends = (tsize_field link.tsize, name_begins link.name (tsize_field link.tsize) (omega (arith, ends, whole, fits)), tsize_is link.tsize s.size);
@@ -111,10 +111,10 @@ data_in [] = None
 data_in (link_field link ∷ more) = data_in more
 data_in (data_field inner ∷ more) = Some inner
 
-data_behind : (links : List LinkParts) (inner : Option (List ℕ)) → data_in (map link_field links ++ data_fields inner) ≡ inner
-data_behind [] None = refl
-data_behind [] (Some inner) = refl
-data_behind (link ∷ links) inner = data_behind links inner
+data_after : (links : List LinkParts) (inner : Option (List ℕ)) → data_in (map link_field links ++ data_fields inner) ≡ inner
+data_after [] None = refl
+data_after [] (Some inner) = refl
+data_after (link ∷ links) inner = data_after links inner
 
 no_data : (links : List LinkParts) → data_in (map link_field links) ≡ None
 no_data [] = refl
@@ -125,7 +125,7 @@ data_before links None = no_data links
 data_before links (Some inner) = refl
 
 node_data_in : (fields : List Field) (node : NodeParts) → AreFieldsOf fields node → data_in fields ≡ node.«data»
-node_data_in fields node (inl e) = ap data_in e ∙ data_behind node.links node.«data»
+node_data_in fields node (inl e) = ap data_in e ∙ data_after node.links node.«data»
 node_data_in fields node (inr e) = ap data_in e ∙ data_before node.links node.«data»
 
 pub node_unique : (b : List ℕ) (node other : NodeParts) → IsNode b node → IsNode b other → node ≡ other

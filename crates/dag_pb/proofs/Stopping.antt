@@ -9,12 +9,12 @@ pub stops_here : (b : List ℕ) (cause : PbCause) (stop : Stop) → stop ≡ rec
 stops_here b cause stop is h = subst (StopsIn b) (sym is) ([], b, [], sym (append-nil b), omega arith, h)
 
 -- a stop in the rest is a stop in the whole
-pub stops_behind : (b front rest : List ℕ) (stop : Stop) → b ≡ front ++ rest → StopsIn rest stop → StopsIn b stop
-stops_behind b front rest stop e (before, at, behind, is, left, h) = (
+pub stops_after : (b front rest : List ℕ) (stop : Stop) → b ≡ front ++ rest → StopsIn rest stop → StopsIn b stop
+stops_after b front rest stop e (before, at, following, is, left, h) = (
   front ++ before,
   at,
-  behind,
-  e ∙ ap (λ r. front ++ r) is ∙ sym (append_assoc front before (at ++ behind)),
+  following,
+  e ∙ ap (λ r. front ++ r) is ∙ sym (append_assoc front before (at ++ following)),
   left,
   h,
 )

@@ -24,8 +24,8 @@ IsCause (InvalidCid fault) at = IsFault fault at
 -- `left` bytes are left, and the cause is at their front: in the rest of a message, or of the CID
 -- in it, after which other bytes follow
 abbrev pub CauseIn : PbCause → List ℕ → ℕ → Type 0
-CauseIn cause b left = (before at behind : List ℕ) × (b ≡ before ++ (at ++ behind))
-    × (left ≡ length at + length behind) × IsCause cause at
+CauseIn cause b left = (before at following : List ℕ) × (b ≡ before ++ (at ++ following))
+    × (left ≡ length at + length following) × IsCause cause at
 
 abbrev pub StopsIn : List ℕ → Stop → Type 0
 StopsIn b stop = CauseIn stop.cause b stop.left

@@ -9,8 +9,8 @@ use Rattle.dag_pb.specs.Varint.{BeginsWithVarint}
 -- the bytes are a field of bytes, and then the rest; the field is a tag, which is eight times its
 -- number plus two, the length of the inner bytes, and these
 abbrev pub BeginsWithBytes : ℕ → List ℕ → List ℕ → List ℕ → Type 0
-BeginsWithBytes tag b inner rest = (behind : List ℕ) × BeginsWithVarint b tag behind
-    × BeginsWithVarint behind (length inner) (inner ++ rest)
+BeginsWithBytes tag b inner rest = (following : List ℕ) × BeginsWithVarint b tag following
+    × BeginsWithVarint following (length inner) (inner ++ rest)
 
 -- the bytes begin with a field of bytes (`Some`), or with no such field (`None`)
 abbrev pub MayBeginWithBytes : ℕ → List ℕ → Option (List ℕ) → List ℕ → Type 0
@@ -21,8 +21,8 @@ MayBeginWithBytes tag b (Some inner) rest = BeginsWithBytes tag b inner rest
 -- number; or they are empty (`None`)
 abbrev pub MayBeNumber : ℕ → List ℕ → Option ℕ → Type 0
 MayBeNumber tag b None = b ≡ []
-MayBeNumber tag b (Some n) = (behind : List ℕ) × BeginsWithVarint b tag behind
-    × BeginsWithVarint behind n []
+MayBeNumber tag b (Some n) = (following : List ℕ) × BeginsWithVarint b tag following
+    × BeginsWithVarint following n []
 
 -- ---- links
 
@@ -35,16 +35,16 @@ pub record LinkParts : Type 0 where
 -- the bytes are the end of a link, after the CID: field 2, the name,
 -- and field 3, the size; either may be left out
 abbrev pub IsLinkEnd : List ℕ → Option (List ℕ) → Option ℕ → Type 0
-IsLinkEnd b name tsize = (behind : List ℕ) × MayBeginWithBytes 0x12 b name behind
-    × MayBeNumber 0x18 behind tsize
+IsLinkEnd b name tsize = (following : List ℕ) × MayBeginWithBytes 0x12 b name following
+    × MayBeNumber 0x18 following tsize
 
 -- the bytes are the message of a link: field 1, the CID, then the name and the size, in this order,
 -- each once, and nothing else
 pub record IsLink (b : List ℕ) (link : LinkParts) : Type 0 where
-  pub behind : List ℕ
+  pub following : List ℕ
   pub valid : AreCidParts link.hash
-  pub hash : BeginsWithBytes 0x0a b (cid_bytes link.hash) behind
-  pub ends : IsLinkEnd behind link.name link.tsize
+  pub hash : BeginsWithBytes 0x0a b (cid_bytes link.hash) following
+  pub ends : IsLinkEnd following link.name link.tsize
 
 -- ---- nodes
 
@@ -67,8 +67,8 @@ BeginsWithField b (data_field inner) rest = BeginsWithBytes 0x0a b inner rest
 -- the bytes are these fields, and then the rest
 abbrev pub BeginsWithFields : List ℕ → List Field → List ℕ → Type 0
 BeginsWithFields b [] rest = b ≡ rest
-BeginsWithFields b (field ∷ more) rest = (behind : List ℕ) × BeginsWithField b field behind
-    × BeginsWithFields behind more rest
+BeginsWithFields b (field ∷ more) rest = (following : List ℕ) × BeginsWithField b field following
+    × BeginsWithFields following more rest
 
 abbrev pub data_fields : Option (List ℕ) → List Field
 data_fields None = []
@@ -105,5 +105,5 @@ BeginsNoField b = (field : Field) (rest : List ℕ) → ¬ BeginsWithField b fie
 
 -- if the bytes are the end of a link, these are left after the name
 abbrev pub HasOneEnd : List ℕ → List ℕ → Type 0
-HasOneEnd b behind = (name : Option (List ℕ)) (tsize : Option ℕ) (rest : List ℕ)
-    → MayBeginWithBytes 0x12 b name rest → MayBeNumber 0x18 rest tsize → rest ≡ behind
+HasOneEnd b following = (name : Option (List ℕ)) (tsize : Option ℕ) (rest : List ℕ)
+    → MayBeginWithBytes 0x12 b name rest → MayBeNumber 0x18 rest tsize → rest ≡ following

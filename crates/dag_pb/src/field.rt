@@ -29,15 +29,15 @@ pub(crate) fn split_field(bytes: &[u8]) -> Result<(PbField<'_>, &[u8]), Stop>
         (λ p. BeginsWithField bytes.now (field_of p.0) p.1.now)
         (λ stop. BeginsNoField bytes.now × StopsIn bytes.now stop) }
 {
-    let (tag, behind) = split_varint(bytes)?;
+    let (tag, following) = split_varint(bytes)?;
     if tag == DATA {
-        let (inner, rest) = split_counted(behind)?;
+        let (inner, rest) = split_counted(following)?;
         return Ok((PbField::Data(inner), rest));
     }
     if tag != LINK {
         return Err(Stop::before(PbCause::UnexpectedField(tag), bytes));
     }
-    let (message, rest) = split_counted(behind)?;
+    let (message, rest) = split_counted(following)?;
     match read_link(message) {
         Ok(link) => Ok((PbField::Link(link), rest)),
         Err(stop) => Err(Stop {

@@ -41,15 +41,15 @@ pub(crate) fn read_link(message: &[u8]) -> Result<PbLink<'_>, Stop>
     if message.is_empty() {
         return Err(Stop::before(PbCause::NoHash, message));
     }
-    let (form, behind) = split_bytes(HASH, message)?;
+    let (form, following) = split_bytes(HASH, message)?;
     match Cid::try_from(form) {
-        Ok(hash) => match read_link_end(behind) {
+        Ok(hash) => match read_link_end(following) {
             Ok((name, tsize)) => Ok(PbLink { hash, name, tsize }),
             Err(stop) => Err(stop),
         },
         Err(fault) => Err(Stop {
             cause: PbCause::InvalidCid(fault),
-            left: form.len() + behind.len(),
+            left: form.len() + following.len(),
         }),
     }
 }
@@ -61,8 +61,8 @@ fn read_link_end(bytes: &[u8]) -> Result<(Option<&[u8]>, Option<u64>), Stop>
         (λ stop. ((name : Option (List ℕ)) (tsize : Option ℕ) → ¬ IsLinkEnd bytes.now name tsize)
         × StopsIn bytes.now stop) }
 {
-    let (name, behind) = split_name(bytes)?;
-    let tsize = read_tsize(behind)?;
+    let (name, following) = split_name(bytes)?;
+    let tsize = read_tsize(following)?;
     Ok((name, tsize))
 }
 
@@ -72,11 +72,11 @@ fn split_bytes(tag: u64, bytes: &[u8]) -> Result<(&[u8], &[u8]), Stop>
         (λ p. BeginsWithBytes tag bytes.now p.0.now p.1.now)
         (λ stop. BeginsNoBytes tag bytes.now × StopsIn bytes.now stop) }
 {
-    let (found, behind) = split_varint(bytes)?;
+    let (found, following) = split_varint(bytes)?;
     if found != tag {
         return Err(Stop::before(PbCause::UnexpectedField(found), bytes));
     }
-    split_counted(behind)
+    split_counted(following)
 }
 
 /// Returns the name at the front, if there is one, and the bytes after it.
@@ -90,11 +90,11 @@ fn split_name(bytes: &[u8]) -> Result<(Option<&[u8]>, &[u8]), Stop>
     if bytes.is_empty() {
         return Ok((None, bytes));
     }
-    let (found, behind) = split_varint(bytes)?;
+    let (found, following) = split_varint(bytes)?;
     if found != NAME {
         return Ok((None, bytes));
     }
-    let (name, rest) = split_counted(behind)?;
+    let (name, rest) = split_counted(following)?;
     Ok((Some(name), rest))
 }
 
@@ -107,14 +107,14 @@ fn read_tsize(bytes: &[u8]) -> Result<Option<u64>, Stop>
     if bytes.is_empty() {
         return Ok(None);
     }
-    let (found, behind) = split_varint(bytes)?;
+    let (found, following) = split_varint(bytes)?;
     if found != TSIZE {
         return Err(Stop::before(PbCause::UnexpectedField(found), bytes));
     }
-    let (size, rest) = split_varint(behind)?;
+    let (size, rest) = split_varint(following)?;
     if rest.is_empty() {
         return Ok(Some(size));
     }
-    let (next, _behind) = split_varint(rest)?;
+    let (next, _following) = split_varint(rest)?;
     Err(Stop::before(PbCause::UnexpectedField(next), rest))
 }

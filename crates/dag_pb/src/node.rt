@@ -58,7 +58,7 @@ fn stop_in(block: &[u8]) -> Option<Stop>
     let mut order = Order::Nothing;
     let mut rest = block;
     while !rest.is_empty() {
-        let (field, behind) = match split_field(rest) {
+        let (field, following) = match split_field(rest) {
             Ok(found) => found,
             Err(stop) => return Some(stop),
         };
@@ -66,7 +66,7 @@ fn stop_in(block: &[u8]) -> Option<Stop>
             return Some(Stop::before(PbCause::UnexpectedField(tag_of(&field)), rest));
         };
         order = next;
-        rest = behind;
+        rest = following;
     }
     None
 }
@@ -113,11 +113,11 @@ pub fn next_link(fields: &[u8]) -> Option<(PbLink<'_>, &[u8])>
         (λ p. length (cid_bytes p.0.hash) + length p.1.now < length fields.now) }
 {
     let mut rest = fields;
-    while let Some((field, behind)) = next_field(rest) {
+    while let Some((field, following)) = next_field(rest) {
         if let PbField::Link(link) = field {
-            return Some((link, behind));
+            return Some((link, following));
         }
-        rest = behind;
+        rest = following;
     }
     None
 }

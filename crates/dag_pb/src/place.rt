@@ -64,8 +64,8 @@ fn put_linked(
 {
     let message = message_length(hash, name, tsize);
     let inside = put_tagged(out, at, LINK as u8, message as u64);
-    let behind = put_bytes(out, inside, HASH as u8, hash);
-    put_ends(out, behind, name, tsize)
+    let following = put_bytes(out, inside, HASH as u8, hash);
+    put_ends(out, following, name, tsize)
 }
 
 /// Writes the field of the data at `at`, if there are data. Returns the place after it.
@@ -88,8 +88,8 @@ fn put_ends(out: &mut [u8], at: usize, name: Option<&[u8]>, tsize: Option<u64>) 
     ensures { PutsAt (name_field (option_map (λ b. b.now) name.entry) ++ tsize_field tsize) at
         out.old out.new result }
 {
-    let behind = put_name(out, at, name);
-    put_tsize(out, behind, tsize)
+    let following = put_name(out, at, name);
+    put_tsize(out, following, tsize)
 }
 
 /// Writes the field of the name, if there is one. Returns the place after it.
@@ -119,8 +119,8 @@ fn put_bytes(out: &mut [u8], at: usize, tag: u8, inner: &[u8]) -> usize
     requires { at + length (bytes_field tag inner.now) ≤ length out.old }
     ensures { PutsAt (bytes_field tag inner.now) at out.old out.new result }
 {
-    let behind = put_tagged(out, at, tag, inner.len() as u64);
-    put(out, behind, inner)
+    let following = put_tagged(out, at, tag, inner.len() as u64);
+    put(out, following, inner)
 }
 
 /// Writes a tag and a number. Returns the place after them.
@@ -128,8 +128,8 @@ fn put_tagged(out: &mut [u8], at: usize, tag: u8, number: u64) -> usize
     requires { at + length (tag ∷ varint number) ≤ length out.old }
     ensures { PutsAt (tag ∷ varint number) at out.old out.new result }
 {
-    let behind = put(out, at, &[tag]);
-    put(out, behind, &varint_of(number))
+    let following = put(out, at, &[tag]);
+    put(out, following, &varint_of(number))
 }
 
 /// Returns the length of a link's message in bytes.

@@ -38,12 +38,12 @@ size_bounded b (Some n) (c, h, (form, is, e)) = is.fits
 link_bounded : (b : List ℕ) (l : LinkParts) (r : List ℕ) → BeginsWithField b (link_field l) r → length b < 2 ^ 64 → Bounded l
 link_bounded b l r (m, h, i) small =
     let inner = inner_short 0x12 b m r h in
-    let behind = inner_short 0x0a m (cid_bytes l.hash) i.behind i.hash in
+    let following = inner_short 0x0a m (cid_bytes l.hash) i.following i.hash in
     let (rest, name, size) = i.ends in
     record {
       valid = i.valid;
       cid = omega (arith, link_shorter b l r (m, h, i), small);
-      name = name_bounded i.behind rest l.name name (omega (arith, inner, behind, small));
+      name = name_bounded i.following rest l.name name (omega (arith, inner, following, small));
       size = size_bounded rest l.tsize size;
     }
 

@@ -6,7 +6,7 @@ use Rattle.dag_pb.specs.Node.{LinkParts, Field, BeginsWithFields}
 use Rattle.dag_pb.specs.Reads.{links_in}
 use Rattle.dag_pb.proofs.Rows.{one_row}
 use Rattle.lent_memory.specs.Puts.{PutsAt}
-use Rattle.lent_memory.proofs.Putting.{put_both, none_put, room_behind}
+use Rattle.lent_memory.proofs.Putting.{put_both, none_put, room_after}
 use Rattle.dag_pb_model.specs.Forms.{part_form, written_link, links_form}
 use Rattle.dag_pb_model.proofs.Forms.{part_some, link_written}
 
@@ -22,9 +22,9 @@ part_put key t at middle end old now new room p q =
 
 pub five_put : (at p q r t end : ℕ) (a b c d e old u v w x new : List ℕ) → at + length (a ++ (b ++ (c ++ (d ++ e)))) ≤ length old → PutsAt a at old u p → PutsAt b p u v q → PutsAt c q v w r → PutsAt d r w x t → PutsAt e t x new end → PutsAt (a ++ (b ++ (c ++ (d ++ e)))) at old new end
 five_put at p q r t end a b c d e old u v w x new room h i j k l =
-    let second = room_behind at p a (b ++ (c ++ (d ++ e))) old u room h in
-    let third = room_behind p q b (c ++ (d ++ e)) u v second i in
-    let fourth = room_behind q r c (d ++ e) v w third j in
+    let second = room_after at p a (b ++ (c ++ (d ++ e))) old u room h in
+    let third = room_after p q b (c ++ (d ++ e)) u v second i in
+    let fourth = room_after q r c (d ++ e) v w third j in
     put_both at p end a (b ++ (c ++ (d ++ e))) old u new room h
     (put_both p q end b (c ++ (d ++ e)) u v new second i
     (put_both q r end c (d ++ e) v w new third j
@@ -36,7 +36,7 @@ front_room s t old e room = omega (arith, room, ap length e)
 -- room for the fourth of them, and for the last
 pub fourth_room : (at p q r : ℕ) (a b c d e old u v w : List ℕ) → at + length (a ++ (b ++ (c ++ (d ++ e)))) ≤ length old → PutsAt a at old u p → PutsAt b p u v q → PutsAt c q v w r → r + length (d ++ e) ≤ length w
 fourth_room at p q r a b c d e old u v w room h i j =
-    room_behind q r c (d ++ e) v w (room_behind p q b (c ++ (d ++ e)) u v (room_behind at p a (b ++ (c ++ (d ++ e))) old u room h) i) j
+    room_after q r c (d ++ e) v w (room_after p q b (c ++ (d ++ e)) u v (room_after at p a (b ++ (c ++ (d ++ e))) old u room h) i) j
 
 -- ---- links in a row
 
@@ -72,11 +72,11 @@ next_form left l more e = ap links_form e ∙ first_form l (links_in more)
 
 pub next_room : (fields rest old now : List ℕ) (at place : ℕ) (l : LinkParts) (more : List Field) (g : Placing fields rest old now at place) → links_in g.left ≡ l ∷ links_in more → place + length (written_link l) ≤ length now
 next_room fields rest old now at place l more g e =
-    let behind = room_behind at place g.done (links_form (links_in g.left)) old now g.fits g.puts in
-    omega (arith, behind, ap length (next_form g.left l more e), length-append (written_link l) (links_form (links_in more)))
+    let following = room_after at place g.done (links_form (links_in g.left)) old now g.fits g.puts in
+    omega (arith, following, ap length (next_form g.left l more e), length-append (written_link l) (links_form (links_in more)))
 
-pub one_placed : (fields rest behind old now new : List ℕ) (at place end : ℕ) (l : LinkParts) (more : List Field) (g : Placing fields rest old now at place) → links_in g.left ≡ l ∷ links_in more → BeginsWithFields behind more [] → PutsAt (written_link l) place now new end → Placing fields behind old new at end
-one_placed fields rest behind old now new at place end l more g e h put =
+pub one_placed : (fields rest following old now new : List ℕ) (at place end : ℕ) (l : LinkParts) (more : List Field) (g : Placing fields rest old now at place) → links_in g.left ≡ l ∷ links_in more → BeginsWithFields following more [] → PutsAt (written_link l) place now new end → Placing fields following old new at end
+one_placed fields rest following old now new at place end l more g e h put =
     let first = written_link l in
     let ends = links_form (links_in more) in
     let joined : g.done ++ links_form (links_in g.left) ≡ (g.done ++ first) ++ ends = ap (λ s. g.done ++ s) (next_form g.left l more e) ∙ sym (append_assoc g.done first ends) in

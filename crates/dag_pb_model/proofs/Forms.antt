@@ -14,10 +14,10 @@ entries_join : (ps qs : List (List ℕ × Tree)) → entries_spelling (entries_o
 entries_join [] qs = refl
 entries_join (p ∷ ps) qs =
     let rest = entries_spelling (entries_of ps) in
-    let behind = entries_spelling (entries_of qs) in
+    let following = entries_spelling (entries_of qs) in
     ap (λ z. text_spelling p.0 ++ (spelling p.1 ++ z)) (entries_join ps qs)
-    ∙ ap (λ z. text_spelling p.0 ++ z) (sym (append_assoc (spelling p.1) rest behind))
-    ∙ sym (append_assoc (text_spelling p.0) (spelling p.1 ++ rest) behind)
+    ∙ ap (λ z. text_spelling p.0 ++ z) (sym (append_assoc (spelling p.1) rest following))
+    ∙ sym (append_assoc (text_spelling p.0) (spelling p.1 ++ rest) following)
 
 count_join : (ps qs : List (List ℕ × Tree)) → entry_count (entries_of (ps ++ qs)) ≡ entry_count (entries_of ps) + entry_count (entries_of qs)
 count_join [] qs = omega arith

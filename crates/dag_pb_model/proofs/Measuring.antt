@@ -104,8 +104,8 @@ none_measured b m (node, (row, h, are)) d l n = record {
   fits = omega (arith, n);
 }
 
-pub one_measured : (b rest behind : List ℕ) (f : Field) (more : List Field) (m n : Measure) (g : MeasuredTo b rest m) → BeginsWithFields behind more [] → g.left ≡ f ∷ more → length behind < length rest → Adds m f (Some n) → MeasuredTo b behind n
-one_measured b rest behind (link_field l) more m n g h is short a =
+pub one_measured : (b rest following : List ℕ) (f : Field) (more : List Field) (m n : Measure) (g : MeasuredTo b rest m) → BeginsWithFields following more [] → g.left ≡ f ∷ more → length following < length rest → Adds m f (Some n) → MeasuredTo b following n
+one_measured b rest following (link_field l) more m n g h is short a =
     let first = spelling (link_model l) in
     record {
       node = g.node;
@@ -122,7 +122,7 @@ one_measured b rest behind (link_field l) more m n g h is short a =
       few = omega (arith, a.2, g.few, short);
       fits = omega (arith, a.4, g.fits, short);
     }
-one_measured b rest behind (data_field s) more m n g h is short a = record {
+one_measured b rest following (data_field s) more m n g h is short a = record {
   node = g.node;
   row = g.row;
   stands = g.stands;

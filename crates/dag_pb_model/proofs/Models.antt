@@ -25,11 +25,11 @@ row_kept : (ls : List LinkParts) → items_links (items_of (map link_model ls)) 
 row_kept [] = refl
 row_kept (l ∷ ls) = ap₂ (λ a b. a ++ b) (link_kept l) (row_kept ls)
 
-behind_data : (inner : Option (List ℕ)) (t : Tree) → entries_links (entries_of (optional_entry (codes "Data") (option_map bytes inner) ++ ((codes "Links", t) ∷ []))) ≡ links_of t ++ []
-behind_data None t = refl
-behind_data (Some s) t = refl
+after_data : (inner : Option (List ℕ)) (t : Tree) → entries_links (entries_of (optional_entry (codes "Data") (option_map bytes inner) ++ ((codes "Links", t) ∷ []))) ≡ links_of t ++ []
+after_data None t = refl
+after_data (Some s) t = refl
 
 pub links_kept : (node : NodeParts) → links_of (node_model node) ≡ node_links node
 links_kept node =
     let links = list (items_of (map link_model node.links)) in
-    behind_data node.«data» links ∙ append-nil (links_of links) ∙ row_kept node.links
+    after_data node.«data» links ∙ append-nil (links_of links) ∙ row_kept node.links

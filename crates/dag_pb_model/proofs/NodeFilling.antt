@@ -7,7 +7,7 @@ use Rattle.ipld_tree.proofs.Cids.{cid_unique}
 use Rattle.ipld_tree.specs.Spelling.{IsFront, AreFronts, items_spelling}
 use Rattle.ipld_tree.proofs.Fronts.{item_opened, items_after, front_nonempty}
 use Rattle.lent_memory.specs.Puts.{put_at, PutsAt}
-use Rattle.lent_memory.proofs.Putting.{put_fits, put_behind}
+use Rattle.lent_memory.proofs.Putting.{put_fits, put_after}
 use Rattle.dag_pb.specs.Node.{LinkParts}
 use Rattle.dag_pb.specs.Spelling.{link_spelling, IsSpellableLink}
 use Rattle.dag_pb_model.specs.Model.{link_model}
@@ -92,16 +92,16 @@ link_there b rest old now at some f none = by f.more f.left
     by (l ∷ ls) h = none l (items_spelling (link_models ls) ++ []) (item_opened rest [] (link_model l) (link_models ls) h).0
 
 -- and it is the first that is left
-record First (rest behind : List ℕ) (l : LinkParts) (more : List LinkParts) : Type 0 where
+record First (rest following : List ℕ) (l : LinkParts) (more : List LinkParts) : Type 0 where
   others : List LinkParts
   is : more ≡ l ∷ others
-  left : AreFronts behind (link_models others) []
+  left : AreFronts following (link_models others) []
   spellable : AllByRecursion IsSpellableLink others
 
-first_left : (rest behind : List ℕ) (l : LinkParts) (more : List LinkParts) → rest ≢ [] → IsLinkModel rest l behind → AreFronts rest (link_models more) [] → AllByRecursion IsSpellableLink more → First rest behind l more
-first_left rest behind l [] some h k s = absurd (some k.is)
-first_left rest behind l (m ∷ ms) some h k s =
-    let q = items_after rest behind [] (link_model l) (link_model m) (link_models ms) h.1 k in
+first_left : (rest following : List ℕ) (l : LinkParts) (more : List LinkParts) → rest ≢ [] → IsLinkModel rest l following → AreFronts rest (link_models more) [] → AllByRecursion IsSpellableLink more → First rest following l more
+first_left rest following l [] some h k s = absurd (some k.is)
+first_left rest following l (m ∷ ms) some h k s =
+    let q = items_after rest following [] (link_model l) (link_model m) (link_models ms) h.1 k in
     let first = same_link m l s.0.valid h.0 q.0 in
     record { others = ms; is = λ i. first i ∷ ms; left = q.1; spellable = s.1 }
 
@@ -109,15 +109,15 @@ one_more : (done others : List LinkParts) (l : LinkParts) → length (flat_map l
 one_more done others l =
     omega (arith, ap length (flat_map-append link_spelling done (l ∷ others)), length-append (flat_map link_spelling done) (flat_map link_spelling (l ∷ others)), length-append (link_spelling l) (flat_map link_spelling others))
 
-pub link_room : (b rest behind old now : List ℕ) (at : ℕ) (l : LinkParts) → rest ≢ [] → IsLinkModel rest l behind → Filling b rest old now at → at + length (link_spelling l) ≤ length now
-link_room b rest behind old now at l some h f =
-    let first = first_left rest behind l f.more some h f.left f.left_spellable in
+pub link_room : (b rest following old now : List ℕ) (at : ℕ) (l : LinkParts) → rest ≢ [] → IsLinkModel rest l following → Filling b rest old now at → at + length (link_spelling l) ≤ length now
+link_room b rest following old now at l some h f =
+    let first = first_left rest following l f.more some h f.left f.left_spellable in
     let bs = flat_map link_spelling f.done in
     omega (arith, f.fits, ap (λ x. length (flat_map link_spelling (f.done ++ x))) first.is, one_more f.done first.others l, f.place, ap length f.stands, length-append bs (drop (length bs) old), length-drop (length bs) old)
 
-pub one_filled : (b rest behind old now new : List ℕ) (at end : ℕ) (l : LinkParts) → rest ≢ [] → IsLinkModel rest l behind → PutsAt (link_spelling l) at now new end → Filling b rest old now at → Filling b behind old new end
-one_filled b rest behind old now new at end l some h puts f =
-    let first = first_left rest behind l f.more some h f.left f.left_spellable in
+pub one_filled : (b rest following old now new : List ℕ) (at end : ℕ) (l : LinkParts) → rest ≢ [] → IsLinkModel rest l following → PutsAt (link_spelling l) at now new end → Filling b rest old now at → Filling b following old new end
+one_filled b rest following old now new at end l some h puts f =
+    let first = first_left rest following l f.more some h f.left f.left_spellable in
     let whole : f.done ++ f.more ≡ (f.done ++ l ∷ []) ++ first.others = ap (λ x. f.done ++ x) first.is ∙ sym (append_assoc f.done (l ∷ []) first.others) in
     let bs = flat_map link_spelling f.done in
     let s = link_spelling l in
@@ -132,7 +132,7 @@ one_filled b rest behind old now new at end l some h puts f =
       fits = subst (λ x. length (flat_map link_spelling x) ≤ length old) whole f.fits;
       place = omega (arith, puts.0, f.place, ap length put, length-append bs s);
       stands = puts.1 ∙ ap (λ n. put_at n s now) f.place ∙ ap (put_at (length bs) s) f.stands
-          ∙ put_behind bs s old (omega (arith, f.fits, ap (λ x. length (flat_map link_spelling (f.done ++ x))) first.is, one_more f.done first.others l))
+          ∙ put_after bs s old (omega (arith, f.fits, ap (λ x. length (flat_map link_spelling (f.done ++ x))) first.is, one_more f.done first.others l))
           ∙ ap (λ x. x ++ drop (length x) old) (sym put);
     }
 

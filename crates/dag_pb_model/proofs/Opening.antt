@@ -33,8 +33,8 @@ one_head b m n k o x y h g = head_unique m n k o x y h.1 g.1 (sym h.2 ∙ g.2)
 
 -- ---- the entry of the links
 
-behind_links : (b c : List ℕ) (count : ℕ) (rest : List ℕ) → b ≡ (0x65 ∷ 0x4c ∷ 0x69 ∷ 0x6e ∷ 0x6b ∷ 0x73 ∷ []) ++ c → IsLinksFront b count rest → SplitsHead c 4 count rest
-behind_links b c count rest e k =
+after_links : (b c : List ℕ) (count : ℕ) (rest : List ℕ) → b ≡ (0x65 ∷ 0x4c ∷ 0x69 ∷ 0x6e ∷ 0x6b ∷ 0x73 ∷ []) ++ c → IsLinksFront b count rest → SplitsHead c 4 count rest
+after_links b c count rest e k =
     let front = 0x65 ∷ 0x4c ∷ 0x69 ∷ 0x6e ∷ 0x6b ∷ 0x73 ∷ [] in
     let same : front ++ c ≡ text_spelling (codes "Links") ++ k.0 = sym e ∙ k.1 in
     subst (λ x. SplitsHead x 4 count rest) (sym (split_at_length front (text_spelling (codes "Links")) c k.0 (ap length links_key) same).1) k.2
@@ -43,10 +43,10 @@ pub no_links_key : (b : List ℕ) → ((rest : List ℕ) → b ≢ (0x65 ∷ 0x4
 no_links_key b none count rest k = none k.0 (k.1 ∙ ap (λ x. x ++ k.0) (sym links_key))
 
 pub no_links_head : (b c : List ℕ) → b ≡ (0x65 ∷ 0x4c ∷ 0x69 ∷ 0x6e ∷ 0x6b ∷ 0x73 ∷ []) ++ c → ¬ BeginsWithHead c → (count : ℕ) (rest : List ℕ) → ¬ IsLinksFront b count rest
-no_links_head b c e none count rest k = none (4, count, rest, behind_links b c count rest e k)
+no_links_head b c e none count rest k = none (4, count, rest, after_links b c count rest e k)
 
 pub other_links_head : (b c : List ℕ) (m n : ℕ) (x : List ℕ) → b ≡ (0x65 ∷ 0x4c ∷ 0x69 ∷ 0x6e ∷ 0x6b ∷ 0x73 ∷ []) ++ c → SplitsHead c m n x → ¬ (m ≡ 4) → (count : ℕ) (rest : List ℕ) → ¬ IsLinksFront b count rest
-other_links_head b c m n x e h other count rest k = other (one_head c m n 4 count x rest h (behind_links b c count rest e k)).0
+other_links_head b c m n x e h other count rest k = other (one_head c m n 4 count x rest h (after_links b c count rest e k)).0
 
 pub links_found : (b c : List ℕ) (n : ℕ) (x : List ℕ) → b ≡ (0x65 ∷ 0x4c ∷ 0x69 ∷ 0x6e ∷ 0x6b ∷ 0x73 ∷ []) ++ c → SplitsHead c 4 n x → IsLinksFront b n x
 links_found b c n x e h = (c, e ∙ ap (λ z. z ++ c) links_key, h)
@@ -54,7 +54,7 @@ links_found b c n x e h = (c, e ∙ ap (λ z. z ++ c) links_key, h)
 one_links : (b : List ℕ) (m n : ℕ) (x y : List ℕ) → IsLinksFront b m x → IsLinksFront b n y → (m ≡ n) × (x ≡ y)
 one_links b m n x y h k =
     let e : b ≡ (0x65 ∷ 0x4c ∷ 0x69 ∷ 0x6e ∷ 0x6b ∷ 0x73 ∷ []) ++ h.0 = h.1 ∙ ap (λ z. z ++ h.0) (sym links_key) in
-    let p = one_head h.0 4 m 4 n x y h.2 (behind_links b h.0 n y e k) in
+    let p = one_head h.0 4 m 4 n x y h.2 (after_links b h.0 n y e k) in
     (p.1, p.2)
 
 -- ---- the entries of a node

@@ -40,11 +40,11 @@ pub no_link_of : (b c : List ℕ) → b ≡ 0xd8 ∷ 0x2a ∷ c → ((cid rest :
 no_link_of b c e none (cid, rest, f) =
     let k = link_begins cid b rest f in
     let same : ◌≡◌ {A = List ℕ} (0xd8 ∷ 0x2a ∷ c) (0xd8 ∷ 0x2a ∷ k.0) = sym e ∙ k.1 in
-    let behind : c ≡ k.0 = cc same in
-    none cid rest k.2 (subst (λ x. IsFront x (bytes (0x00 ∷ cid)) rest) (sym behind) k.3)
+    let following : c ≡ k.0 = cc same in
+    none cid rest k.2 (subst (λ x. IsFront x (bytes (0x00 ∷ cid)) rest) (sym following) k.3)
 
-pub no_cid_of : (b c payload behind : List ℕ) → b ≡ 0xd8 ∷ 0x2a ∷ c → IsFront c (bytes payload) behind → ¬ ((cid : List ℕ) × IsCid cid × (payload ≡ 0x00 ∷ cid)) → ¬ ((cid : List ℕ) × (rest : List ℕ) × IsFront b (link cid) rest)
-no_cid_of b c payload behind e f none = no_link_of b c e (λ cid rest valid g. none (cid, valid, cc (front_unique c behind rest (bytes payload) (bytes (0x00 ∷ cid)) f g).0))
+pub no_cid_of : (b c payload following : List ℕ) → b ≡ 0xd8 ∷ 0x2a ∷ c → IsFront c (bytes payload) following → ¬ ((cid : List ℕ) × IsCid cid × (payload ≡ 0x00 ∷ cid)) → ¬ ((cid : List ℕ) × (rest : List ℕ) × IsFront b (link cid) rest)
+no_cid_of b c payload following e f none = no_link_of b c e (λ cid rest valid g. none (cid, valid, cc (front_unique c following rest (bytes payload) (bytes (0x00 ∷ cid)) f g).0))
 
 pub link_ends : (cid b c rest : List ℕ) → b ≡ 0xd8 ∷ 0x2a ∷ c → IsCid cid → IsFront c (bytes (0x00 ∷ cid)) rest → IsFront b (link cid) rest
 link_ends cid b c rest e valid f = record { well_formed = valid; spellable = omega (arith, f.spellable); is = e ∙ ap (λ x. 0xd8 ∷ 0x2a ∷ x) f.is }
@@ -67,8 +67,8 @@ size_key = refl
 pub entry_read : (key front b c rest : List ℕ) (t : Tree) → front ≡ text_spelling key → b ≡ front ++ c → IsFront c t rest → IsEntry b key t rest
 entry_read key front b c rest t is e h = (c, e ∙ ap (λ x. x ++ c) is, h)
 
-pub behind_key : (key front b c rest : List ℕ) (t : Tree) → front ≡ text_spelling key → b ≡ front ++ c → IsEntry b key t rest → IsFront c t rest
-behind_key key front b c rest t is e k =
+pub after_key : (key front b c rest : List ℕ) (t : Tree) → front ≡ text_spelling key → b ≡ front ++ c → IsEntry b key t rest → IsFront c t rest
+after_key key front b c rest t is e k =
     let same : front ++ c ≡ text_spelling key ++ k.0 = sym e ∙ k.1 in
     subst (λ x. IsFront x t rest) (sym (split_at_length front (text_spelling key) c k.0 (ap length is) same).1) k.2
 
@@ -77,7 +77,7 @@ pub no_key : {V : Type 0} (tree : V → Tree) (key front b : List ℕ) → front
 no_key tree key front b is none k = none k.2.0 (k.2.1 ∙ ap (λ x. x ++ k.2.0) (sym is))
 
 pub no_value : {V : Type 0} (tree : V → Tree) (key front b c : List ℕ) → front ≡ text_spelling key → b ≡ front ++ c → ¬ ((v : V) × (rest : List ℕ) × IsFront c (tree v) rest) → ¬ ((v : V) × (rest : List ℕ) × IsEntry b key (tree v) rest)
-no_value tree key front b c is e none k = none (k.0, k.1, behind_key key front b c k.1 (tree k.0) is e k.2)
+no_value tree key front b c is e none k = none (k.0, k.1, after_key key front b c k.1 (tree k.0) is e k.2)
 
 pub hash_judged : {P : Type 0} (cid : P → CidParts) (rest : P → List ℕ) (key front b c : List ℕ) (r : Option P) → front ≡ text_spelling key → b ≡ front ++ c
     → MatchOption r (¬ ((k : List ℕ) × (x : List ℕ) × IsFront c (link k) x)) (λ p. AreCidParts (cid p) × IsFront c (link (cid_bytes (cid p))) (rest p))
@@ -87,7 +87,7 @@ hash_judged cid rest key front b c (Some p) is e k = (k.0, entry_read key front 
 
 -- bytes begin with one entry of a key only
 pub one_entry : (b key x y : List ℕ) (t u : Tree) → IsEntry b key t x → IsEntry b key u y → (t ≡ u) × (x ≡ y)
-one_entry b key x y t u h k = front_unique h.0 x y t u h.2 (behind_key key (text_spelling key) b h.0 y u refl h.1 k)
+one_entry b key x y t u h k = front_unique h.0 x y t u h.2 (after_key key (text_spelling key) b h.0 y u refl h.1 k)
 
 name_or_size : (b x y : List ℕ) (t u : Tree) → IsEntry b (codes "Name") t x → IsEntry b (codes "Tsize") u y → ⊥
 name_or_size b x y t u h k =

@@ -108,20 +108,20 @@ all_end : (ls : List LinkParts) (l : LinkParts) → AllByRecursion IsSpellableLi
 all_end [] l h k = (k, tt)
 all_end (m ∷ ls) l h k = (h.0, all_end ls l h.1 k)
 
-none_before : (rest behind : List ℕ) (left less : ℕ) (l : LinkParts) → less + 1 ≡ left → IsFront rest (link_model l) behind → AreNoLinkModels behind less → AreNoLinkModels rest left
-none_before rest behind left less l is h none [] k = omega (arith, is, k.0)
-none_before rest behind left less l is h none (m ∷ ms) k = none ms (omega (arith, is, k.0), (items_after rest behind [] (link_model l) (link_model m) (link_models ms) h k.1).1)
+none_before : (rest following : List ℕ) (left less : ℕ) (l : LinkParts) → less + 1 ≡ left → IsFront rest (link_model l) following → AreNoLinkModels following less → AreNoLinkModels rest left
+none_before rest following left less l is h none [] k = omega (arith, is, k.0)
+none_before rest following left less l is h none (m ∷ ms) k = none ms (omega (arith, is, k.0), (items_after rest following [] (link_model l) (link_model m) (link_models ms) h k.1).1)
 
-pub one_walked : (all rest behind : List ℕ) (count left less size more : ℕ) (sorted r : Bool) (last name : List ℕ) (l : LinkParts) → less + 1 ≡ left → IsLinkModel rest l behind → IsSpellableLink l → more ≡ size + length (link_spelling l) → name ≡ sort_name l → r ≡ (sorted && not (is_lt (slice_cmp nat_cmp name last)))
-    → Walked all count left rest size sorted last → Walked all count less behind more r name
-one_walked all rest behind count left less size more sorted r last name l is h spellable sum named now w = record {
+pub one_walked : (all rest following : List ℕ) (count left less size more : ℕ) (sorted r : Bool) (last name : List ℕ) (l : LinkParts) → less + 1 ≡ left → IsLinkModel rest l following → IsSpellableLink l → more ≡ size + length (link_spelling l) → name ≡ sort_name l → r ≡ (sorted && not (is_lt (slice_cmp nat_cmp name last)))
+    → Walked all count left rest size sorted last → Walked all count less following more r name
+one_walked all rest following count left less size more sorted r last name l is h spellable sum named now w = record {
   done = w.done ++ l ∷ [];
   counted = omega (arith, w.counted, is, length-append w.done (l ∷ []));
-  closed = λ ls k. subst (λ x. AreFronts all (link_models x) []) (sym (append_assoc w.done (l ∷ []) ls)) (w.closed (l ∷ ls) (item_closed rest behind [] (link_model l) (link_models ls) h.1 k));
-  none = λ k. w.none (none_before rest behind left less l is h.1 k);
+  closed = λ ls k. subst (λ x. AreFronts all (link_models x) []) (sym (append_assoc w.done (l ∷ []) ls)) (w.closed (l ∷ ls) (item_closed rest following [] (link_model l) (link_models ls) h.1 k));
+  none = λ k. w.none (none_before rest following left less l is h.1 k);
   spellable = all_end w.done l w.spellable spellable;
   size_is = omega (arith, sum, w.size_is, ap length (flat_map-append link_spelling w.done (l ∷ [])), length-append (flat_map link_spelling w.done) (flat_map link_spelling (l ∷ [])), ap length (append-nil (link_spelling l)));
-  few = omega (arith, sum, w.few, link_no_longer l spellable, ap length h.1.is, length-append (spelling (link_model l)) behind);
+  few = omega (arith, sum, w.few, link_no_longer l spellable, ap length h.1.is, length-append (spelling (link_model l)) following);
   sorted_is = sorted_now w.done l last sorted r (now ∙ ap (λ n. sorted && not (below n last)) named) w.sorted_is w.named;
   named = last_named w.done l name named;
 }
@@ -139,8 +139,8 @@ no_end : (rest : List ℕ) (left : ℕ) → left ≡ 0 → rest ≢ [] → AreNo
 no_end rest left over there [] k = there k.1.is
 no_end rest left over there (m ∷ ms) k = omega (arith, over, k.0)
 
-pub left_behind : (all rest : List ℕ) (count left size : ℕ) (sorted : Bool) (last : List ℕ) → left ≡ 0 → rest ≢ [] → Walked all count left rest size sorted last → AreNoLinkModels all count
-left_behind all rest count left size sorted last over there w = w.none (no_end rest left over there)
+pub left_after : (all rest : List ℕ) (count left size : ℕ) (sorted : Bool) (last : List ℕ) → left ≡ 0 → rest ≢ [] → Walked all count left rest size sorted last → AreNoLinkModels all count
+left_after all rest count left size sorted last over there w = w.none (no_end rest left over there)
 
 pub all_walked : (all rest : List ℕ) (count left size : ℕ) (sorted : Bool) (last : List ℕ) → left ≡ 0 → rest ≡ [] → Walked all count left rest size sorted last → AreMeasured all count size sorted
 all_walked all rest count left size sorted last over is w =
@@ -155,6 +155,6 @@ all_walked all rest count left size sorted last over is w =
     }
 
 -- there is room for the length of one more
-pub one_fits : (all rest behind : List ℕ) (count left size : ℕ) (sorted : Bool) (last : List ℕ) (l : LinkParts) → IsLinkModel rest l behind → IsSpellableLink l → Walked all count left rest size sorted last → size + length (link_spelling l) ≤ length all
-one_fits all rest behind count left size sorted last l h spellable w =
-    omega (arith, w.few, link_no_longer l spellable, ap length h.1.is, length-append (spelling (link_model l)) behind)
+pub one_fits : (all rest following : List ℕ) (count left size : ℕ) (sorted : Bool) (last : List ℕ) (l : LinkParts) → IsLinkModel rest l following → IsSpellableLink l → Walked all count left rest size sorted last → size + length (link_spelling l) ≤ length all
+one_fits all rest following count left size sorted last l h spellable w =
+    omega (arith, w.few, link_no_longer l spellable, ap length h.1.is, length-append (spelling (link_model l)) following)

@@ -13,7 +13,7 @@ use Rattle.dag_pb_model.specs.Model.{link_model, node_model}
 
 -- the bytes are this entry of a map, and then the rest
 abbrev pub IsEntry : List ℕ → List ℕ → Tree → List ℕ → Type 0
-IsEntry b key t rest = (behind : List ℕ) × (b ≡ text_spelling key ++ behind) × IsFront behind t rest
+IsEntry b key t rest = (following : List ℕ) × (b ≡ text_spelling key ++ following) × IsFront following t rest
 
 -- the bytes begin with the name and size of a link of `count` entries, that of its CID included
 abbrev pub AreEnds : ℕ → List ℕ → Option (List ℕ) → Option ℕ → List ℕ → Type 0
@@ -21,8 +21,8 @@ AreEnds count b None None rest = (count ≡ 1) × (b ≡ rest)
 AreEnds count b (Some name) None rest = (count ≡ 2) × IsEntry b (codes "Name") (text name) rest
 AreEnds count b None (Some n) rest = (count ≡ 2) × IsEntry b (codes "Tsize") (integer (pos n)) rest
 AreEnds count b (Some name) (Some n) rest = (count ≡ 3)
-    × ((behind : List ℕ) × IsEntry b (codes "Name") (text name) behind
-    × IsEntry behind (codes "Tsize") (integer (pos n)) rest)
+    × ((following : List ℕ) × IsEntry b (codes "Name") (text name) following
+    × IsEntry following (codes "Tsize") (integer (pos n)) rest)
 
 -- the bytes do not begin with the name and size of such a link
 abbrev pub HasNoEnds : ℕ → List ℕ → Type 0
@@ -45,20 +45,20 @@ link_models ls = items_of (map link_model ls)
 
 -- the bytes begin with the entry of the links, up to the head of their list
 abbrev pub IsLinksFront : List ℕ → ℕ → List ℕ → Type 0
-IsLinksFront b count rest = (behind : List ℕ) × (b ≡ text_spelling (codes "Links") ++ behind)
-    × SplitsHead behind 4 count rest
+IsLinksFront b count rest = (following : List ℕ) × (b ≡ text_spelling (codes "Links") ++ following)
+    × SplitsHead following 4 count rest
 
 -- the bytes begin with the data of a node of this many entries, and the front of its links
 abbrev pub AreNodeEnds : ℕ → List ℕ → Option (List ℕ) → ℕ → List ℕ → Type 0
 AreNodeEnds entries b None count rest = (entries ≡ 1) × IsLinksFront b count rest
 AreNodeEnds entries b (Some inner) count rest = (entries ≡ 2)
-    × ((behind : List ℕ) × IsEntry b (codes "Data") (bytes inner) behind
-    × IsLinksFront behind count rest)
+    × ((following : List ℕ) × IsEntry b (codes "Data") (bytes inner) following
+    × IsLinksFront following count rest)
 
 -- the bytes begin with a node's data model, up to the head of the list of its links
 abbrev pub IsNodeFront : List ℕ → Option (List ℕ) → ℕ → List ℕ → Type 0
-IsNodeFront b inner count rest = (entries : ℕ) × (behind : List ℕ) × SplitsHead b 5 entries behind
-    × AreNodeEnds entries behind inner count rest
+IsNodeFront b inner count rest = (entries : ℕ) × (following : List ℕ) × SplitsHead b 5 entries following
+    × AreNodeEnds entries following inner count rest
 
 -- the bytes are not a node's data model
 abbrev pub HasNoNode : List ℕ → Type 0

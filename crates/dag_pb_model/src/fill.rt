@@ -35,8 +35,8 @@ fn put_data(out: &mut [u8], at: usize, inner: Option<&[u8]>) -> usize
 {
     match inner {
         Some(inner) => {
-            let behind = put_string(out, at, 3, b"Data");
-            put_string(out, behind, 2, inner)
+            let following = put_string(out, at, 3, b"Data");
+            put_string(out, following, 2, inner)
         }
         None => at,
     }
@@ -51,9 +51,9 @@ fn put_links(out: &mut [u8], at: usize, fields: &[u8]) -> usize
 {
     let mut place = at;
     let mut rest = fields;
-    while let Some((link, behind)) = next_link(rest) {
+    while let Some((link, following)) = next_link(rest) {
         place = put_model_of(out, place, &link);
-        rest = behind;
+        rest = following;
     }
     place
 }
@@ -79,8 +79,8 @@ fn put_name(out: &mut [u8], at: usize, name: Option<&[u8]>) -> usize
 {
     match name {
         Some(name) => {
-            let behind = put_string(out, at, 3, b"Name");
-            put_string(out, behind, 3, name)
+            let following = put_string(out, at, 3, b"Name");
+            put_string(out, following, 3, name)
         }
         None => at,
     }
@@ -93,8 +93,8 @@ fn put_size(out: &mut [u8], at: usize, tsize: Option<u64>) -> usize
 {
     match tsize {
         Some(tsize) => {
-            let behind = put_string(out, at, 3, b"Tsize");
-            put_head(out, behind, 0, tsize)
+            let following = put_string(out, at, 3, b"Tsize");
+            put_head(out, following, 0, tsize)
         }
         None => at,
     }

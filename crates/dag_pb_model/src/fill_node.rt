@@ -13,11 +13,11 @@ fn fill_links(links: &[u8], out: &mut [u8]) -> usize
 {
     let (mut rest, mut at) = (links, 0);
     while !rest.is_empty() {
-        let Some((link, behind)) = next_model_link(rest) else {
+        let Some((link, following)) = next_model_link(rest) else {
             unreachable!()
         };
         at = put_link(out, at, &link);
-        rest = behind;
+        rest = following;
     }
     at
 }

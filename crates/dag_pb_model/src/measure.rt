@@ -57,9 +57,9 @@ fn measure_fields(node: &[u8]) -> Option<Measure<'_>>
         length: 0,
     };
     let mut rest = node;
-    while let Some((field, behind)) = next_field(rest) {
+    while let Some((field, following)) = next_field(rest) {
         found = found.with(&field)?;
-        rest = behind;
+        rest = following;
     }
     Some(found)
 }

@@ -35,14 +35,14 @@ pub(crate) fn measure_links(count: u64, links: &[u8]) -> Option<(usize, bool)>
     let (mut size, mut sorted) = (0, true);
     let mut last: &[u8] = &[];
     while left > 0 {
-        let Some((link, behind)) = next_model_link(rest) else {
+        let Some((link, following)) = next_model_link(rest) else {
             return None;
         };
         let name = sort_name(&link);
         size += link_length(&link);
         sorted = are_still_sorted(sorted, name, last);
         last = name;
-        rest = behind;
+        rest = following;
         left -= 1;
     }
     if !rest.is_empty() {

@@ -4,7 +4,7 @@ ghost use Rattle.std.specs.Prelude.{ℕ, List, [], Option, codes, option_map, Ma
 ghost use Rattle.ipld_tree.specs.Tree.{bytes};
 ghost use Rattle.dag_pb_model.specs.Reading.{IsEntry, IsLinksFront, AreNodeEnds, IsNodeFront};
 
-use crate::read::{behind_front, split_bytes};
+use crate::read::{after_front, split_bytes};
 use dagcbor_core::split_head;
 
 /// Returns the data of a node, and the bytes after its entry.
@@ -13,8 +13,8 @@ fn split_data(block: &[u8]) -> Option<(&[u8], &[u8])>
         (¬ ((s : List ℕ) × (rest : List ℕ) × IsEntry block.now (codes "Data") (bytes s) rest))
         (λ p. IsEntry block.now (codes "Data") (bytes p.0.now) p.1.now) }
 {
-    let behind = behind_front(block, b"\x64Data")?;
-    let (inner, rest) = split_bytes(behind)?;
+    let following = after_front(block, b"\x64Data")?;
+    let (inner, rest) = split_bytes(following)?;
     Some((inner, rest))
 }
 
@@ -23,8 +23,8 @@ fn split_links(block: &[u8]) -> Option<(u64, &[u8])>
     ensures { MatchOption result ((count : ℕ) (rest : List ℕ) → ¬ IsLinksFront block.now count rest)
         (λ p. IsLinksFront block.now p.0 p.1.now) }
 {
-    let behind = behind_front(block, b"\x65Links")?;
-    let (major, count, rest) = split_head(behind)?;
+    let following = after_front(block, b"\x65Links")?;
+    let (major, count, rest) = split_head(following)?;
     if major != 4 {
         return None;
     }
@@ -38,8 +38,8 @@ fn open_both(block: &[u8]) -> Option<(Option<&[u8]>, u64, &[u8])>
         → ¬ AreNodeEnds 2 block.now inner count rest)
         (λ p. AreNodeEnds 2 block.now (option_map (λ b. b.now) p.0) p.1 p.2.now) }
 {
-    let (inner, behind) = split_data(block)?;
-    let (count, links) = split_links(behind)?;
+    let (inner, following) = split_data(block)?;
+    let (count, links) = split_links(following)?;
     Some((Some(inner), count, links))
 }
 
@@ -75,9 +75,9 @@ pub(crate) fn open_node(block: &[u8]) -> Option<(Option<&[u8]>, u64, &[u8])>
         → ¬ IsNodeFront block.now inner count rest)
         (λ p. IsNodeFront block.now (option_map (λ b. b.now) p.0) p.1 p.2.now) }
 {
-    let (major, entries, behind) = split_head(block)?;
+    let (major, entries, following) = split_head(block)?;
     if major != 5 {
         return None;
     }
-    open_entries(entries, behind)
+    open_entries(entries, following)
 }

@@ -14,7 +14,7 @@ use dagcbor_decode::{is_text, split_payload};
 use ipld_tree::Cid;
 
 /// Returns the bytes after `front`, if they begin with it.
-pub(crate) fn behind_front<'a>(bytes: &'a [u8], front: &[u8]) -> Option<&'a [u8]>
+pub(crate) fn after_front<'a>(bytes: &'a [u8], front: &[u8]) -> Option<&'a [u8]>
     ensures { MatchOption result ((rest : List ℕ) → bytes.now ≢ front.now ++ rest)
         (λ rest. bytes.now ≡ front.now ++ rest.now) }
 {
@@ -74,7 +74,7 @@ fn split_number(bytes: &[u8]) -> Option<(u64, &[u8])>
 }
 
 /// Returns the CID in the payload of a link, after its zero byte.
-fn cid_behind_zero(payload: &[u8]) -> Option<Cid>
+fn cid_after_zero(payload: &[u8]) -> Option<Cid>
     ensures { MatchOption result
         (¬ ((cid : List ℕ) × IsCid cid × (payload.now ≡ 0x00 ∷ cid)))
         (λ cid. AreCidParts cid × (payload.now ≡ 0x00 ∷ cid_bytes cid)) }
@@ -102,9 +102,9 @@ fn split_link(bytes: &[u8]) -> Option<Linked<'_>>
         (¬ ((cid : List ℕ) × (rest : List ℕ) × IsFront bytes.now (link cid) rest))
         (λ l. AreCidParts l.cid × IsFront bytes.now (link (cid_bytes l.cid)) l.rest.now) }
 {
-    let tagged = behind_front(bytes, b"\xd8\x2a")?;
+    let tagged = after_front(bytes, b"\xd8\x2a")?;
     let (payload, rest) = split_bytes(tagged)?;
-    let cid = cid_behind_zero(payload)?;
+    let cid = cid_after_zero(payload)?;
     Some(Linked { cid, rest })
 }
 
@@ -115,8 +115,8 @@ fn split_hash(bytes: &[u8]) -> Option<Linked<'_>>
         (λ l. AreCidParts l.cid
         × IsEntry bytes.now (codes "Hash") (link (cid_bytes l.cid)) l.rest.now) }
 {
-    let behind = behind_front(bytes, b"\x64Hash")?;
-    split_link(behind)
+    let following = after_front(bytes, b"\x64Hash")?;
+    split_link(following)
 }
 
 /// Returns the name in the entry `Name` at the front, and the bytes after it.
@@ -125,8 +125,8 @@ fn split_name(bytes: &[u8]) -> Option<(&[u8], &[u8])>
         (¬ ((name : List ℕ) × (rest : List ℕ) × IsEntry bytes.now (codes "Name") (text name) rest))
         (λ p. IsEntry bytes.now (codes "Name") (text p.0.now) p.1.now) }
 {
-    let behind = behind_front(bytes, b"\x64Name")?;
-    let (name, rest) = split_text(behind)?;
+    let following = after_front(bytes, b"\x64Name")?;
+    let (name, rest) = split_text(following)?;
     Some((name, rest))
 }
 
@@ -137,8 +137,8 @@ fn split_size(bytes: &[u8]) -> Option<(u64, &[u8])>
         × IsEntry bytes.now (codes "Tsize") (integer (pos n)) rest))
         (λ p. IsEntry bytes.now (codes "Tsize") (integer (pos p.0)) p.1.now) }
 {
-    let behind = behind_front(bytes, b"\x65Tsize")?;
-    let (size, rest) = split_number(behind)?;
+    let following = after_front(bytes, b"\x65Tsize")?;
+    let (size, rest) = split_number(following)?;
     Some((size, rest))
 }
 
@@ -161,8 +161,8 @@ fn split_both_ends(bytes: &[u8]) -> Option<(Option<&[u8]>, Option<u64>, &[u8])>
     ensures { MatchOption result (HasNoEnds 3 bytes.now)
         (λ p. AreEnds 3 bytes.now (option_map (λ b. b.now) p.0) p.1 p.2.now) }
 {
-    let (name, behind) = split_name(bytes)?;
-    let (size, rest) = split_size(behind)?;
+    let (name, following) = split_name(bytes)?;
+    let (size, rest) = split_size(following)?;
     Some((Some(name), Some(size), rest))
 }
 
@@ -184,11 +184,11 @@ pub(crate) fn next_model_link(bytes: &[u8]) -> Option<(PbLink<'_>, &[u8])>
     ensures { MatchOption result (BeginsNoLinkModel bytes.now)
         (λ p. IsLinkModel bytes.now (link_of p.0) p.1.now) }
 {
-    let (major, count, behind) = split_head(bytes)?;
+    let (major, count, following) = split_head(bytes)?;
     if major != 5 {
         return None;
     }
-    let Some(linked) = split_hash(behind) else {
+    let Some(linked) = split_hash(following) else {
         return None;
     };
     let (name, tsize, rest) = split_ends(count, linked.rest)?;

@@ -2,10 +2,10 @@
 //! that proves a record, and the data of all records.
 
 use crate::{NOT_OPENED, end_output};
-use commit_lines::{CommitAsked, CommitWords};
-use dagcar_lines::OneFault;
-use dagcbor_cli::give_up;
-use named_lines::{run_commit, run_record_proof, run_records_json};
+use program_dagcar::OneFault;
+use program_dagcar_files::{run_commit, run_record_proof, run_records_json};
+use program_records::{CommitAsked, CommitWords};
+use program_shared::give_up;
 use std::io::{BufReader, BufWriter, Read, Write};
 use std::{fs, io};
 

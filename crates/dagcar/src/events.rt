@@ -1,9 +1,9 @@
 //! `event`: frames of an AT Protocol event stream.
 
 use crate::{NOT_OPENED, end_output};
-use dagcar_lines::OneFault;
-use dagcbor_cli::give_up;
-use event_lines::{EventWords, run_events};
+use program_dagcar::OneFault;
+use program_events::{EventWords, run_events};
+use program_shared::give_up;
 use std::io::{BufReader, BufWriter, Read, Write};
 use std::{fs, io};
 

@@ -10,20 +10,20 @@ use crate::commits::commit_file;
 use crate::events::event_file;
 use crate::sections::{filter_file, merge_files};
 use crate::split::split_file;
-use commit_lines::commit_words_of;
-use dagcar_lines::{
+use ipld_tree::Cid;
+use program_dagcar::{
     Asked, OUT_OF_MEMORY, OneFault, USAGE, changes_of, run_changes, run_command, run_inspect,
     split_words,
 };
-use dagcbor_cli::{arguments, give_up};
-use event_lines::event_of;
-use inspect_lines::{Form, Index, Inspection, inspection_of};
-use ipld_tree::Cid;
-use named_lines::{
+use program_dagcar_files::{
     IndexAsked, IndexWords, index_of, index_words_of, is_check, name_of, path_words_of, run_asked,
     run_checked, run_entries, run_get, run_index, run_inspected, run_judged,
 };
-use section_lines::{filter_of, merge_of, split_of};
+use program_events::event_of;
+use program_inspect::{Form, Index, Inspection, inspection_of};
+use program_records::commit_words_of;
+use program_sections::{filter_of, merge_of, split_of};
+use program_shared::{arguments, give_up};
 use std::fs::File;
 use std::io::{BufReader, BufWriter, ErrorKind, Read, Write};
 use std::process::ExitCode;

@@ -1,13 +1,13 @@
 //! `filter` and `merge`: CAR files made of the sections of others.
 
 use crate::{NOT_OPENED, end_output};
-use dagcar_lines::OneFault;
-use dagcbor_cli::give_up;
 use dagcbor_heads::{Input, IoReader};
-use held_lines::input_over;
 use ipld_tree::Cid;
-use named_lines::{run_filter, run_listed, run_merged};
-use section_lines::{By, Filter, FilterWords, Kept};
+use program_dagcar::OneFault;
+use program_dagcar_files::{run_filter, run_listed, run_merged};
+use program_parts::input_over;
+use program_sections::{By, Filter, FilterWords, Kept};
+use program_shared::give_up;
 use std::fs::File;
 use std::io::{BufReader, BufWriter, Read, Write};
 use std::{fs, io};

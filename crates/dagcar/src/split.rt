@@ -3,10 +3,10 @@
 ghost use Rattle.std.specs.Prelude.{None};
 
 use crate::NOT_OPENED;
-use dagcar_lines::OneFault;
-use dagcbor_cli::{ToolError, give_up, write_all};
-use named_lines::run_split;
-use section_lines::{NewFiles, NotBegun, Split};
+use program_dagcar::OneFault;
+use program_dagcar_files::run_split;
+use program_sections::{NewFiles, NotBegun, Split};
+use program_shared::{ToolError, give_up, write_all};
 use std::alloc::Global;
 use std::fs::{File, Files, OpenFile};
 use std::io::{BufReader, BufWriter, ErrorKind, Read, Write};

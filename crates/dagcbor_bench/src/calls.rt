@@ -8,7 +8,7 @@ use crate::bag::Bag;
 use crate::declared::Declared;
 use crate::derived::Derived;
 use crate::record::Record;
-use dagcbor_paths::find_slice;
+use ipld_paths::find_slice;
 use serde_ipld_dagcbor::{
     Bytes, Deserialize, DeserializeOwned, IgnoredAny, Ipld, Serialize, check_slice, from_reader,
     from_slice, iter_from_reader, links_from_slice, to_vec,
@@ -77,7 +77,7 @@ fn reads_source<'de, T: DeserializeOwned<'de> + Drop>(
 fn reads_derived(alloc: Global, block: &[u8], times: u64) -> u64 {
     let mut count = 0u64;
     for _ in 0..times {
-        count = count.saturating_add(u64::from(dagcbor_serde::from_slice::<Derived>(
+        count = count.saturating_add(u64::from(types_serde::from_slice::<Derived>(
             alloc, block,
         ).is_ok()));
     }
@@ -103,12 +103,12 @@ fn writes_again<'de, T: Deserialize<'de> + Serialize + Drop>(
 
 /// Writes the record that the block holds by its derive, `times` times.
 fn writes_derived(alloc: Global, block: &[u8], times: u64) -> u64 {
-    let Ok(value) = dagcbor_serde::from_slice::<Derived>(alloc, block) else {
+    let Ok(value) = types_serde::from_slice::<Derived>(alloc, block) else {
         return 0;
     };
     let mut count = 0u64;
     for _ in 0..times {
-        count = count.saturating_add(u64::from(dagcbor_serde::to_vec(alloc, &value).is_ok()));
+        count = count.saturating_add(u64::from(types_serde::to_vec(alloc, &value).is_ok()));
     }
     count
 }
@@ -159,8 +159,8 @@ pub fn successes(alloc: Global, name: &str, block: &[u8], times: u64) -> Option<
         "to_vec::<BTreeMap>" => writes_again::<BTreeMap<String, u8>>(alloc, block, times),
         "to_vec::<HashMap>" => writes_again::<HashMap<String, u8>>(alloc, block, times),
         "to_vec::<Bytes>" => writes_again::<Bytes>(alloc, block, times),
-        "dagcbor_serde::from_slice::<Derived>" => reads_derived(alloc, block, times),
-        "dagcbor_serde::to_vec::<Derived>" => writes_derived(alloc, block, times),
+        "types_serde::from_slice::<Derived>" => reads_derived(alloc, block, times),
+        "types_serde::to_vec::<Derived>" => writes_derived(alloc, block, times),
         _ => return None,
     })
 }

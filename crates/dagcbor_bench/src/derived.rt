@@ -1,7 +1,7 @@
 //! The record with a derive, and its fields out of key order.
 
-use dagcbor_serde::Link;
 use serde::{Deserialize, Serialize};
+use types_serde::Link;
 
 #[derive(Drop, Serialize, Deserialize)]
 pub struct Derived {

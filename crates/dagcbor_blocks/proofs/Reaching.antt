@@ -4,10 +4,10 @@ use Rattle.serde_ipld_dagcbor.specs.Cid.{CidParts, cid_bytes}
 use Rattle.serde_ipld_dagcbor.specs.Written.{Written, WroteAll, Stops}
 use Rattle.serde_ipld_dagcbor.specs.EncodeError.{EncodeError}
 use Rattle.serde_ipld_dagcbor.specs.EncodeError.TheVariants as unwritten
-use Rattle.dagcbor_car.specs.Writers.{UnsentWithoutMemory}
-use Rattle.dagcbor_car.specs.Car.{car_bytes, IsCar}
+use Rattle.files_car.specs.Writers.{UnsentWithoutMemory}
+use Rattle.files_car.specs.Car.{car_bytes, IsCar}
 use Rattle.ipld_links.specs.Reaching.{stored_in, ListsReachable}
-use Rattle.dagcbor_car.specs.Reached.{sections_at}
+use Rattle.files_car.specs.Reached.{sections_at}
 use Rattle.ipld_links.proofs.Reaching.{none_found}
 use Rattle.dagcbor_blocks.specs.Blocks.{Held}
 use Rattle.dagcbor_blocks.specs.Reaching.{stored, MayLead, IsNotHeld, tree_bytes, OfReachable, TreeUnwritten}

@@ -3,23 +3,23 @@ use Rattle.std.proofs.Common.{◌≡◌, ◌⊎◌, inl, inr, ℕ, List, [], ◌
 use Rattle.std.specs.List.{AllByRecursion}
 use Rattle.dagcbor_heads.proofs.Taking.{stays_both}
 use Rattle.serde_ipld_dagcbor.specs.Reading.{Reading, Stays}
-use Rattle.dagcbor_car.specs.Car.{Section}
-use Rattle.dagcbor_car.specs.Extents.{EndsThere}
+use Rattle.files_car.specs.Car.{Section}
+use Rattle.files_car.specs.Extents.{EndsThere}
 use Rattle.ipld_links.specs.Sets.{Among}
 use Rattle.ipld_links.specs.Sound.{IsSound}
-use Rattle.dagcbor_car.specs.Sources.{CarRefuses, RefusesStart, LacksMemoryIf, FileLacks, TakesStart, TakesSectionBytes}
-use Rattle.dagcbor_car.specs.Each.{SinkTakes, TakesEach, StopsEach, RunsEach}
-use Rattle.dagcbor_car.specs.declared.error.CarError.{CarError}
-use Rattle.dagcbor_car.specs.declared.each.ReadCarError.{ReadCarError}
-use Rattle.dagcbor_car.specs.declared.each.ReadCarError.TheVariants as stop
+use Rattle.files_car.specs.Sources.{CarRefuses, RefusesStart, LacksMemoryIf, FileLacks, TakesStart, TakesSectionBytes}
+use Rattle.files_car.specs.Each.{SinkTakes, TakesEach, StopsEach, RunsEach}
+use Rattle.files_car.specs.declared.error.CarError.{CarError}
+use Rattle.files_car.specs.declared.each.ReadCarError.{ReadCarError}
+use Rattle.files_car.specs.declared.each.ReadCarError.TheVariants as stop
 use Rattle.dagcbor_blocks.specs.Blocks.{Held, held_blocks, block_at, HoldsAlso}
 use Rattle.dagcbor_blocks.specs.Bytes.{PutsBytes, PutBytesRefused}
 use Rattle.dagcbor_blocks.specs.Cars.{IsKeptTo, KeepsAll, FileUnread}
 use Rattle.dagcbor_blocks.specs.declared.put_error.PutBlockError.{PutBlockError}
 use Rattle.dagcbor_blocks.specs.declared.store.Blocks.{Blocks}
 use Rattle.ipld_links.proofs.Members.{among_push, push_among}
-use Rattle.dagcbor_car.proofs.Places.{IsPlace, place_begun, place_more, place_front, place_whole, place_end, ended, ends_same}
-use Rattle.dagcbor_car.proofs.Taking.{each_along, lacks_alike}
+use Rattle.files_car.proofs.Places.{IsPlace, place_begun, place_more, place_front, place_whole, place_end, ended, ends_same}
+use Rattle.files_car.proofs.Taking.{each_along, lacks_alike}
 
 -- ---- stored blocks
 
@@ -106,7 +106,7 @@ pub read_along : (roots : List (List ℕ)) (ss : List Section) (extent rest : Op
     → IsReadAt roots ss start before rest mid (held_blocks new)
 read_along roots ss extent rest start source mid before old new =
     each_along Keeps (λ seen extent source it. IsReadAt roots seen start before extent source (held_blocks it))
-    (λ seen s extent more source behind from to h t k. read_more roots seen s extent more start source behind before (held_blocks from) (held_blocks to) h t k.0 k.1)
+    (λ seen s extent more source following from to h t k. read_more roots seen s extent more start source following before (held_blocks from) (held_blocks to) h t k.0 k.1)
     [] ss extent rest source mid old new
 
 -- ---- refusals
@@ -115,20 +115,20 @@ pub not_begun : {E : Type 0} (T : Type 0) (e : CarError E) (old new : Reading) (
 not_begun T e old new blocks refused memory = inl ((refused, lacks_alike T (FileLacks old) e memory), refl)
 
 module _ {E : Type 0} (roots : List (List ℕ)) (start : Reading) (before : Held) where
-  stopped : (ss : List Section) (extent : Option ℕ) (mid : Reading) (it : Blocks) (e : ReadCarError E PutBlockError) (more : Option ℕ) (behind : Reading) (new : Blocks) → IsReadAt roots ss start before extent mid (held_blocks it) → StopsEach Keeps (length ss) extent mid it e more behind new → FileUnread start before e behind (held_blocks new)
-  stopped ss extent mid it (stop.Header e) more behind new h k = absurd k
-  stopped ss extent mid it (stop.Section n e) more behind new h k = inr (roots, ss, extent, mid, subst (λ (b : Blocks). IsKeptTo roots ss start before extent mid (held_blocks b)) (sym k.2) (read_to h), inl (k.0, k.1))
-  stopped ss extent mid it (stop.Block n name e) more behind new h k =
+  stopped : (ss : List Section) (extent : Option ℕ) (mid : Reading) (it : Blocks) (e : ReadCarError E PutBlockError) (more : Option ℕ) (following : Reading) (new : Blocks) → IsReadAt roots ss start before extent mid (held_blocks it) → StopsEach Keeps (length ss) extent mid it e more following new → FileUnread start before e following (held_blocks new)
+  stopped ss extent mid it (stop.Header e) more following new h k = absurd k
+  stopped ss extent mid it (stop.Section n e) more following new h k = inr (roots, ss, extent, mid, subst (λ (b : Blocks). IsKeptTo roots ss start before extent mid (held_blocks b)) (sym k.2) (read_to h), inl (k.0, k.1))
+  stopped ss extent mid it (stop.Block n name e) more following new h k =
       inr (roots, ss, extent, mid, subst (IsKeptTo roots ss start before extent mid) (sym k.4.0) (read_to h), inl (k.0, more, k.1, k.2, k.3, subst (λ held. PutBytesRefused k.0 held e) (sym k.4.0) k.4.1))
 
-  pub read_stopped : (extent : Option ℕ) (source : Reading) (old : Blocks) (e : ReadCarError E PutBlockError) (more : Option ℕ) (behind : Reading) (new : Blocks) → IsReadAt roots [] start before extent source (held_blocks old) → RunsEach Keeps extent source old (Err e) more behind new → FileUnread start before e behind (held_blocks new)
-  read_stopped extent source old e more behind new h (ss, rest, mid, it, t, inl k) = stopped ss rest mid it e more behind new (read_along roots ss extent rest start source mid before old it h t) k
-  read_stopped extent source old e more behind new h (ss, rest, mid, it, t, inr k) =
+  pub read_stopped : (extent : Option ℕ) (source : Reading) (old : Blocks) (e : ReadCarError E PutBlockError) (more : Option ℕ) (following : Reading) (new : Blocks) → IsReadAt roots [] start before extent source (held_blocks old) → RunsEach Keeps extent source old (Err e) more following new → FileUnread start before e following (held_blocks new)
+  read_stopped extent source old e more following new h (ss, rest, mid, it, t, inl k) = stopped ss rest mid it e more following new (read_along roots ss extent rest start source mid before old it h t) k
+  read_stopped extent source old e more following new h (ss, rest, mid, it, t, inr k) =
       let at = read_along roots ss extent rest start source mid before old it h t in
       inr (roots, ss, rest, mid, subst (λ (b : Blocks). IsKeptTo roots ss start before rest mid (held_blocks b)) (sym k.1) (read_to at), inr (k.0, k.2))
 
-pub read_all : (E : Type 0) (roots : List (List ℕ)) (start : Reading) (before : Held) (extent : Option ℕ) (source : Reading) (old : Blocks) (count : ℕ) (more : Option ℕ) (behind : Reading) (new : Blocks) → IsReadAt roots [] start before extent source (held_blocks old) → RunsEach {E = E} Keeps extent source old (Ok count) more behind new
-    → (sections : List Section) × KeepsAll roots sections start before behind (held_blocks new)
-read_all E roots start before extent source old count more behind new h k =
+pub read_all : (E : Type 0) (roots : List (List ℕ)) (start : Reading) (before : Held) (extent : Option ℕ) (source : Reading) (old : Blocks) (count : ℕ) (more : Option ℕ) (following : Reading) (new : Blocks) → IsReadAt roots [] start before extent source (held_blocks old) → RunsEach {E = E} Keeps extent source old (Ok count) more following new
+    → (sections : List Section) × KeepsAll roots sections start before following (held_blocks new)
+read_all E roots start before extent source old count more following new h k =
     let at = read_along roots k.0 extent k.1 start source k.2 before old new h k.3 in
-    (k.0, read_whole roots k.0 k.1 more start k.2 behind before (held_blocks new) (held_blocks new) at k.5 refl)
+    (k.0, read_whole roots k.0 k.1 more start k.2 following before (held_blocks new) (held_blocks new) at k.5 refl)

@@ -9,17 +9,17 @@ use Rattle.std.proofs.lemmas.Grind.{not_there}
 use Rattle.serde_ipld_dagcbor.specs.Reading.{Reading}
 use Rattle.serde_ipld_dagcbor.specs.Cid.{CidParts, cid_cmp}
 use Rattle.serde_ipld_dagcbor.specs.Walks.{forms}
-use Rattle.dagcbor_car.specs.Car.{Section, header_bytes, section_bytes, IsSection, IsCar}
-use Rattle.dagcbor_car.specs.Extents.{bytes_within, wanting}
-use Rattle.dagcbor_car.specs.Laws.{FilesAreUnique}
+use Rattle.files_car.specs.Car.{Section, header_bytes, section_bytes, IsSection, IsCar}
+use Rattle.files_car.specs.Extents.{bytes_within, wanting}
+use Rattle.files_car.specs.Laws.{FilesAreUnique}
 use Rattle.ipld_links.specs.Sets.{Among}
-use Rattle.dagcbor_car.specs.Sources.{CarRefuses, RefusesStart, RefusesNext}
-use Rattle.dagcbor_car.specs.declared.error.CarError.{CarError}
-use Rattle.dagcbor_car.specs.declared.error.CarError.TheVariants as car
-use Rattle.dagcbor_car.proofs.Cars.{section_unique, section_some, header_unique}
-use Rattle.dagcbor_car.proofs.Places.{others_behind, no_file}
-use Rattle.dagcbor_car.proofs.Spending.{within_behind}
-use Rattle.dagcbor_car.proofs.Starting.{holds_one, car_holds, file_of_car}
+use Rattle.files_car.specs.Sources.{CarRefuses, RefusesStart, RefusesNext}
+use Rattle.files_car.specs.declared.error.CarError.{CarError}
+use Rattle.files_car.specs.declared.error.CarError.TheVariants as car
+use Rattle.files_car.proofs.Cars.{section_unique, section_some, header_unique}
+use Rattle.files_car.proofs.Places.{others_after, no_file}
+use Rattle.files_car.proofs.Spending.{within_after}
+use Rattle.files_car.proofs.Starting.{holds_one, car_holds, file_of_car}
 use Rattle.dagcbor_blocks.specs.Blocks.{Held, block_at, HoldsAlso, HoldsOther, FindsMembers}
 use Rattle.ipld_links.specs.Sound.{IsSound}
 use Rattle.ipld_links.proofs.Sounding.{never_unsound}
@@ -29,8 +29,8 @@ use Rattle.dagcbor_blocks.specs.Cars.{KeepsNoneNext, NoFileBegins, FileUnread}
 use Rattle.dagcbor_blocks.specs.Laws.{IsFilledBack, WrittenThenFilled}
 use Rattle.dagcbor_blocks.specs.declared.put_error.PutBlockError.{PutBlockError}
 use Rattle.dagcbor_blocks.specs.declared.put_error.PutBlockError.TheVariants.{Unsound, Collision, OutOfMemory}
-use Rattle.dagcbor_car.specs.declared.each.ReadCarError.{ReadCarError}
-use Rattle.dagcbor_car.specs.declared.each.ReadCarError.TheVariants as stop
+use Rattle.files_car.specs.declared.each.ReadCarError.{ReadCarError}
+use Rattle.files_car.specs.declared.each.ReadCarError.TheVariants as stop
 use Rattle.dagcbor_blocks.proofs.Keeping.{BlockEntry, shown}
 use Rattle.ipld_links.proofs.Members.{map_among}
 use Rattle.dagcbor_blocks.proofs.Members.{all_among, finds_members}
@@ -107,10 +107,10 @@ never_no_section rest extent [] all none is c r = omega (arith, r.0, none, ap le
 never_no_section rest extent (s ∷ more) all none is c r = r.1 s (flat_map section_bytes more) (all.0, is)
 
 -- a section at the front is the next one
-next_among : (rest behind : List ℕ) (ss more blocks : List Section) (s : Section) → AllByRecursion IsSection more → rest ≡ flat_map section_bytes more → blocks ≡ ss ++ more → IsSection s → rest ≡ section_bytes s ++ behind → Among s blocks
-next_among rest behind ss [] blocks s all is whole own first = absurd (omega (arith, section_some s own, ap length (sym is ∙ first), length-append (section_bytes s) behind))
-next_among rest behind ss (t ∷ more) blocks s all is whole own first =
-    let same = section_unique s t behind (flat_map section_bytes more) own all.0 (sym first ∙ is) in
+next_among : (rest following : List ℕ) (ss more blocks : List Section) (s : Section) → AllByRecursion IsSection more → rest ≡ flat_map section_bytes more → blocks ≡ ss ++ more → IsSection s → rest ≡ section_bytes s ++ following → Among s blocks
+next_among rest following ss [] blocks s all is whole own first = absurd (omega (arith, section_some s own, ap length (sym is ∙ first), length-append (section_bytes s) following))
+next_among rest following ss (t ∷ more) blocks s all is whole own first =
+    let same = section_unique s t following (flat_map section_bytes more) own all.0 (sym first ∙ is) in
     subst (Among s) (sym whole) (subst (λ x. Among s (ss ++ x ∷ more)) same.0 (among_mid ss s more))
 
 module _ (es : List BlockEntry) (finds : FindsMembers (shown es)) (sound : ∥ AllByRecursion IsSoundEntry es ∥₁) (b : List ℕ) (roots : List (List ℕ)) (old new : Reading) (after : Held) (file : IsCar b roots (shown es)) (l : old.left ≡ Some b) where
@@ -120,7 +120,7 @@ module _ (es : List BlockEntry) (finds : FindsMembers (shown es)) (sound : ∥ A
   stops_for_memory others ss more extent mid rest (stop.Section n c) holds all none is whole left f = goes_on_for_memory extent mid new rest roots (shown es) after n left (never_no_section rest extent more all none is) c f.1.0
   stops_for_memory others ss more extent mid rest (stop.Block n name e) holds all none is whole left t =
       let w = t.3.1.takes.taken rest left in
-      let first = ap (bytes_within extent) w.1 ∙ within_behind extent t.1 (section_bytes t.0) w.0 t.3.1.spends in
+      let first = ap (bytes_within extent) w.1 ∙ within_after extent t.1 (section_bytes t.0) w.0 t.3.1.spends in
       let m = next_among (bytes_within extent rest) (bytes_within t.1 w.0) ss more (shown es) t.0 all is whole t.3.0 first in
       for_memory roots (shown es) ss after t.0 finds m (λ x n. subst (Among x) (sym whole) (among_left x ss more n)) holds (∥∥₁_map sound (λ k. held_named es t.0 k m)) n name e t.5
 
@@ -137,7 +137,7 @@ module _ (es : List BlockEntry) (finds : FindsMembers (shown es)) (sound : ∥ A
       let front = k.2.2 in
       let bytes = sym (append_assoc (header_bytes others) (flat_map section_bytes ss) (bytes_within extent k.0)) ∙ sym front.is ∙ one.0 ∙ file.is in
       let same = header_unique others roots (flat_map section_bytes ss ++ bytes_within extent k.0) (flat_map section_bytes (shown es)) front.header file.header bytes in
-      let o = others_behind ss (shown es) (bytes_within extent k.0) front.all file.all same.1 in
+      let o = others_after ss (shown es) (bytes_within extent k.0) front.all file.all same.1 in
       stops_for_memory others ss o.0 extent mid k.0 e to.holds o.1 one.1 o.2 o.3 k.1 stops
 
 pub reads_back : FilesAreUnique → (es : List BlockEntry) → IsStrictlySortedBy cid_cmp (keys_of es) → ∥ AllByRecursion IsSoundEntry es ∥₁ → WrittenThenFilled (shown es)

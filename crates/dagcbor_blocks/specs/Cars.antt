@@ -6,14 +6,14 @@ use Rattle.serde_ipld_dagcbor.specs.Reading.{Reading, Stays}
 use Rattle.serde_ipld_dagcbor.specs.Cid.{CidParts}
 use Rattle.serde_ipld_dagcbor.specs.Walks.{forms}
 use Rattle.ipld_links.specs.Sound.{IsSound}
-use Rattle.dagcbor_car.specs.Car.{Section}
-use Rattle.dagcbor_car.specs.Versions.{IsFile}
-use Rattle.dagcbor_car.specs.Extents.{bytes_within, wanting}
-use Rattle.dagcbor_car.specs.Sources.{CarRefuses, RefusesStart, TakesSectionBytes, LacksMemoryIf, FileLacks}
-use Rattle.dagcbor_car.specs.Checks.{IsFileFront, StandBehind}
-use Rattle.dagcbor_car.specs.Each.{NoneNext, AreTooMany}
-use Rattle.dagcbor_car.specs.declared.each.ReadCarError.{ReadCarError}
-use Rattle.dagcbor_car.specs.declared.each.ReadCarError.TheVariants as stop
+use Rattle.files_car.specs.Car.{Section}
+use Rattle.files_car.specs.Versions.{IsFile}
+use Rattle.files_car.specs.Extents.{bytes_within, wanting}
+use Rattle.files_car.specs.Sources.{CarRefuses, RefusesStart, TakesSectionBytes, LacksMemoryIf, FileLacks}
+use Rattle.files_car.specs.Checks.{IsFileFront, StandAfter}
+use Rattle.files_car.specs.Each.{NoneNext, AreTooMany}
+use Rattle.files_car.specs.declared.each.ReadCarError.{ReadCarError}
+use Rattle.files_car.specs.declared.each.ReadCarError.TheVariants as stop
 use Rattle.dagcbor_blocks.specs.Blocks.{Held, HoldsAlso}
 use Rattle.dagcbor_blocks.specs.Bytes.{PutBytesRefused}
 use Rattle.dagcbor_blocks.specs.declared.put_error.PutBlockError.{PutBlockError}
@@ -34,7 +34,7 @@ pub record IsKeptTo (roots : List (List ℕ)) (sections : List Section) (old : R
 -- the bytes after it are left
 abbrev pub TakesCar : Reading → List (List ℕ) → List Section → Reading → Type 0
 TakesCar old roots sections new = (b : List ℕ) → old.left ≡ Some b
-    → IsFile b roots sections × ((rest : List ℕ) × StandBehind b rest × (new.left ≡ Some rest))
+    → IsFile b roots sections × ((rest : List ℕ) × StandAfter b rest × (new.left ≡ Some rest))
 
 -- the whole file was taken, with these sections: all
 -- are sound, and were added to the stored blocks

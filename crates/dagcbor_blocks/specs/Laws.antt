@@ -5,12 +5,12 @@ use Rattle.std.specs.declared.convert.Infallible.{Infallible}
 use Rattle.serde_ipld_dagcbor.specs.Reading.{Reading}
 use Rattle.serde_ipld_dagcbor.specs.Cid.{CidParts}
 use Rattle.serde_ipld_dagcbor.specs.Walks.{forms}
-use Rattle.dagcbor_car.specs.Car.{IsCar}
+use Rattle.files_car.specs.Car.{IsCar}
 use Rattle.dagcbor_blocks.specs.Blocks.{Held, block_at}
 use Rattle.dagcbor_blocks.specs.Cars.{ReadsCar}
-use Rattle.dagcbor_car.specs.declared.error.CarError.TheVariants as car
-use Rattle.dagcbor_car.specs.declared.each.ReadCarError.{ReadCarError}
-use Rattle.dagcbor_car.specs.declared.each.ReadCarError.TheVariants as stop
+use Rattle.files_car.specs.declared.error.CarError.TheVariants as car
+use Rattle.files_car.specs.declared.each.ReadCarError.{ReadCarError}
+use Rattle.files_car.specs.declared.each.ReadCarError.TheVariants as stop
 use Rattle.dagcbor_blocks.specs.declared.put_error.PutBlockError.{PutBlockError}
 use Rattle.dagcbor_blocks.specs.declared.put_error.PutBlockError.TheVariants as puts
 

@@ -4,9 +4,9 @@ use Rattle.serde_ipld_dagcbor.specs.Cid.{CidParts, cid_bytes}
 use Rattle.serde_ipld_dagcbor.specs.Written.{Written, WroteAll, Stops}
 use Rattle.serde_ipld_dagcbor.specs.EncodeError.TheVariants as unwritten
 use Rattle.ipld_links.specs.Names.{IsInline}
-use Rattle.dagcbor_car.specs.Car.{car_bytes, IsCar}
+use Rattle.files_car.specs.Car.{car_bytes, IsCar}
 use Rattle.ipld_links.specs.Reaching.{Stored, ListsReachable}
-use Rattle.dagcbor_car.specs.Reached.{sections_at}
+use Rattle.files_car.specs.Reached.{sections_at}
 use Rattle.dagcbor_blocks.specs.Blocks.{Held, block_at}
 use Rattle.dagcbor_blocks.specs.Bytes.{is_held}
 use Rattle.dagcbor_blocks.specs.declared.tree_error.WriteTreeError.{WriteTreeError}

@@ -4,7 +4,7 @@ ghost use Rattle.dagcbor_blocks.specs.Blocks.{held_blocks, FindsMembers};
 ghost use Rattle.dagcbor_blocks.specs.Laws.{WrittenThenFilled};
 
 use crate::store::Blocks;
-use dagcbor_car::laws::files_are_unique;
+use files_car::laws::files_are_unique;
 
 /// A look-up finds a block under a name exactly if the two are among the stored blocks. So the
 /// contracts of `put` and `get`, which speak of look-ups, and that of `missing`, which speaks of

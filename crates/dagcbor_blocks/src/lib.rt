@@ -26,8 +26,8 @@ mod tree_error;
 mod write_car;
 mod write_tree;
 
-pub use dagcbor_car::ReadCarError;
 pub use error::BlockError;
+pub use files_car::ReadCarError;
 pub use ipld_links::Unsound;
 pub use name::name_of;
 pub use put_error::PutBlockError;

@@ -7,7 +7,7 @@ ghost use Rattle.dagcbor_blocks.specs.Cars.{ReadsCar};
 
 use crate::put_error::PutBlockError;
 use crate::store::Blocks;
-use dagcbor_car::{ReadCarError, Section, SectionSink, each_section, pull_header};
+use files_car::{ReadCarError, Section, SectionSink, each_section, pull_header};
 use serde_ipld_dagcbor::{Cid, Input, Read};
 
 impl SectionSink for Blocks {

@@ -3,12 +3,12 @@
 ghost use Rattle.std.specs.Prelude.{Some, OnOk};
 ghost use Rattle.serde_ipld_dagcbor.specs.Written.{Writes};
 ghost use Rattle.serde_ipld_dagcbor.specs.Walks.{forms};
-ghost use Rattle.dagcbor_car.specs.Car.{car_bytes, IsCar};
-ghost use Rattle.dagcbor_car.specs.Writers.{UnsentWithoutMemory};
+ghost use Rattle.files_car.specs.Car.{car_bytes, IsCar};
+ghost use Rattle.files_car.specs.Writers.{UnsentWithoutMemory};
 ghost use Rattle.dagcbor_blocks.specs.Blocks.{held_blocks};
 
 use crate::store::Blocks;
-use dagcbor_car::{push_header, push_section};
+use files_car::{push_header, push_section};
 use serde_ipld_dagcbor::{Cid, Write, WriteResult};
 
 impl Blocks {

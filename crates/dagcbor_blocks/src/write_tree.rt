@@ -5,7 +5,7 @@ ghost use Rattle.dagcbor_blocks.specs.Reaching.{WritesHeldTree};
 
 use crate::store::Blocks;
 use crate::tree_error::WriteTreeError;
-use dagcbor_car::push_tree;
+use files_car::push_tree;
 use serde_ipld_dagcbor::{Cid, EncodeError, Write};
 
 impl Blocks {

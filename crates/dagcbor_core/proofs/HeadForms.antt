@@ -42,7 +42,7 @@ pub record Begins (first : ℕ) (more : List ℕ) (major n : ℕ) (rest : List �
   pub defined : first % 32 < 28
   pub least : least_argument (argument_width (first % 32)) ≤ n
   pub fits : 24 ≤ first % 32 → n < 256 ^ argument_width (first % 32)
-  pub behind : more ≡ bytes_high_first (argument_width (first % 32)) n ++ rest
+  pub following : more ≡ bytes_high_first (argument_width (first % 32)) n ++ rest
 
 pub begins : (first : ℕ) (more : List ℕ) (major n : ℕ) (rest : List ℕ) → n < 2 ^ 64 → first ∷ more ≡ head major n ++ rest → Begins first more major n rest
 begins first more major n rest h e =
@@ -57,7 +57,7 @@ begins first more major n rest h e =
       defined = omega (arith, low);
       least = subst (λ k. least_argument k ≤ n) w (row_least s.row);
       fits = λ wide. subst (λ k. n < 256 ^ k) w (row_fits s.row (omega (arith, wide, i)));
-      behind = let b : more ≡ bytes_high_first s.width n ++ rest = cc in b ∙ ap (λ k. bytes_high_first k n ++ rest) w;
+      following = let b : more ≡ bytes_high_first s.width n ++ rest = cc in b ∙ ap (λ k. bytes_high_first k n ++ rest) w;
     }
 
 -- ---- the head that bytes make

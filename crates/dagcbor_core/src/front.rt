@@ -104,16 +104,16 @@ pub fn split_head(bytes: &[u8]) -> Option<(u8, u64, &[u8])>
     ensures { MatchOption result (¬ BeginsWithHead bytes.now)
         (λ h. SplitsHead bytes.now h.0 h.1 h.2.now) }
 {
-    let (front, behind) = bytes.split_first()?;
+    let (front, following) = bytes.split_first()?;
     let first = *front;
     let (major, information) = (first / 32, first % 32);
     if information < 24 {
-        return Some((major, u64::from(information), behind));
+        return Some((major, u64::from(information), following));
     }
     if information > 27 {
         return None;
     }
-    let (argument, rest) = split_argument(information, behind)?;
+    let (argument, rest) = split_argument(information, following)?;
     if argument < least_argument(information) {
         return None;
     }

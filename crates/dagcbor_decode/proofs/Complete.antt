@@ -18,11 +18,11 @@ other_information : (i : ℕ) → i < 28 → (i == 31) ≡ false
 other_information i h = elim (eqb_tells i 31) [ inl a ↦ absurd (omega (arith, h, a.1)) | inr a ↦ a.0 ]
 
 -- what is read if a head is at the front
-pub led : (steps major n : ℕ) (behind : List ℕ) (v : Decoded Tree) → n < 2 ^ 64
-    → ((first : ℕ) (more : List ℕ) → first / 32 ≡ major → (first % 32 == 31) ≡ false → ((name : List ℕ) → argument_of name first more ≡ got n behind) → by_major_type (list_of steps) (map_of steps) first more ≡ v)
-    → item_of (suc steps) (head major n ++ behind) ≡ v
-led steps major n behind v fits f =
-    let h = head_front major n behind fits in
+pub led : (steps major n : ℕ) (following : List ℕ) (v : Decoded Tree) → n < 2 ^ 64
+    → ((first : ℕ) (more : List ℕ) → first / 32 ≡ major → (first % 32 == 31) ≡ false → ((name : List ℕ) → argument_of name first more ≡ got n following) → by_major_type (list_of steps) (map_of steps) first more ≡ v)
+    → item_of (suc steps) (head major n ++ following) ≡ v
+led steps major n following v fits f =
+    let h = head_front major n following fits in
     ap (item_of (suc steps)) h.is ∙ f h.first h.more h.major_is (other_information _ h.defined) h.reads
 
 string_front : (name : List ℕ) (first : ℕ) (more s rest : List ℕ) → ((name : List ℕ) → argument_of name first more ≡ got (length s) (s ++ rest)) → string_of name first more ≡ got s rest
@@ -118,7 +118,7 @@ mutual
   entries_front (entry k u es) w s zero h previous f rest = absurd (omega (arith, h, some_need u))
   entries_front (entry k u es) w s (suc steps) h previous f rest =
       ap (λ b. entries_of (item_of (suc steps)) (suc (entry_count es)) previous b) (append_assoc (text_spelling k) (spelling u ++ entries_spelling es) rest ∙ ap (λ x. text_spelling k ++ x) (append_assoc (spelling u) (entries_spelling es) rest))
-      ∙ ap (λ x. after x (λ key behind. after (item_of (suc steps) behind) (λ u rest. after (entries_of (item_of (suc steps)) (entry_count es) (Some key) rest) (λ es. got (entry key u es)))))
+      ∙ ap (λ x. after x (λ key following. after (item_of (suc steps) following) (λ u rest. after (entries_of (item_of (suc steps)) (entry_count es) (Some key) rest) (λ es. got (entry key u es)))))
       (key_front previous k (spelling u ++ (entries_spelling es ++ rest)) w.0 s.0 (key_follows previous k u es f))
       ∙ ap (λ x. after x (λ u rest. after (entries_of (item_of (suc steps)) (entry_count es) (Some k) rest) (λ es. got (entry k u es)))) (any_front u w.1 s.1 steps (omega (arith, h)) (entries_spelling es ++ rest))
       ∙ ap (λ x. after x (λ es. got (entry k u es))) (entries_front es w.3 s.2 (suc steps) (omega (arith, h)) (Some k) w.2 rest)

@@ -14,7 +14,7 @@ use Rattle.dagcbor_decode.specs.Decode.{Decoded, got, refused, indefinite_size, 
 
 pub after_got : {A B : Type 0} (r : Decoded A) (f : A → List ℕ → Decoded B) (b : B) (rest : List ℕ) → after r f ≡ got b rest → (a : A) × (mid : List ℕ) × (r ≡ got a mid) × (f a mid ≡ got b rest)
 after_got (got a mid) f b rest e = (a, mid, refl, e)
-after_got (refused why behind) f b rest e = absurd (cc e)
+after_got (refused why following) f b rest e = absurd (cc e)
 
 pub if_got : {A : Type 0} (c : Bool) (x y z : A) → (if c then x else y) ≡ z → ((c ≡ true) × (x ≡ z)) ⊎ ((c ≡ false) × (y ≡ z))
 if_got true x y z e = inl (refl, e)
@@ -99,9 +99,9 @@ bytes_front [] rest h i = omega arith
 bytes_front (a ∷ s) rest h zero = h 0
 bytes_front (a ∷ s) rest h (suc i) = bytes_front s rest (λ k. h (suc k)) i
 
-pub bytes_behind : (s rest : List ℕ) → AreBytes (s ++ rest) → AreBytes rest
-bytes_behind [] rest h = h
-bytes_behind (a ∷ s) rest h = bytes_behind s rest (λ k. h (suc k))
+pub bytes_of_rest : (s rest : List ℕ) → AreBytes (s ++ rest) → AreBytes rest
+bytes_of_rest [] rest h = h
+bytes_of_rest (a ∷ s) rest h = bytes_of_rest s rest (λ k. h (suc k))
 
 below_1 : (s : List ℕ) → AreBytes s → from_be_bytes w8 s < 256
 below_1 s h = omega (arith, h 0)

@@ -6,11 +6,11 @@ use Rattle.dagcbor_core.specs.Splits.{SplitsHead}
 use Rattle.ipld_tree.specs.Spelling.{items_spelling, entries_spelling}
 use Rattle.dagcbor_decode.specs.Decode.{Decoded, Why, got, refused, items_of, entries_of, item_of}
 use Rattle.dagcbor_decode.specs.Told.{skim, left_of}
-use Rattle.dagcbor_decode.proofs.HeadLaws.{AreBytes, bytes_behind}
+use Rattle.dagcbor_decode.proofs.HeadLaws.{AreBytes, bytes_of_rest}
 use Rattle.dagcbor_decode.proofs.Sound.{any_got, items_got, entries_got}
 
 pub bytes_after_head : (m n : ℕ) (b c : List ℕ) → SplitsHead b m n c → AreBytes b → AreBytes c
-bytes_after_head m n b c h r = bytes_behind (head m n) c (subst AreBytes h.2 r)
+bytes_after_head m n b c h r = bytes_of_rest (head m n) c (subst AreBytes h.2 r)
 
 -- the refusal is kept as it is
 pub none_left : {A : Type 0} (q : Decoded A) (w : Why) (k : ℕ) → Err (w, k) ≡ left_of q → refused w k ≡ skim q

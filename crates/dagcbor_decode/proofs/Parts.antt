@@ -9,7 +9,7 @@ use Rattle.dagcbor_decode.specs.declared.kind.Kind.{Kind}
 
 pub skim_got : {A B : Type 0} (r : Decoded A) (f : A → B) → skim (after r (λ a. got (f a))) ≡ skim r
 skim_got (got a rest) f = refl
-skim_got (refused why behind) f = refl
+skim_got (refused why following) f = refl
 
 pub unskimmed : {A : Type 0} (q : Decoded A) (rest : List ℕ) → skim q ≡ got tt rest → (a : A) × (q ≡ got a rest)
 unskimmed (got a r) rest e = let same : r ≡ rest = cc e in (a, ap (got a) same)
@@ -18,7 +18,7 @@ unskimmed (refused why left) rest e = absurd (cc e)
 -- after one that is refused
 pub skim_no : {A B : Type 0} (r : Decoded A) (f : A → List ℕ → Decoded B) (w : Why) (k : ℕ) → skim r ≡ refused w k → skim (after r f) ≡ refused w k
 skim_no (got a x) f w k e = absurd (cc e)
-skim_no (refused why behind) f w k e = e
+skim_no (refused why following) f w k e = e
 
 pub text_leaf : (first : ℕ) (b : List ℕ) → first / 32 ≡ 3 → skim (leaf_of first b) ≡ skim (text_of (codes "string") first b)
 text_leaf first b e = rw e (skim_got (text_of (codes "string") first b) text)
@@ -28,7 +28,7 @@ text_leaf first b e = rw e (skim_got (text_of (codes "string") first b) text)
 pub no_key : (any : List ℕ → Decoded Tree) (more : ℕ) (previous : Option (List ℕ)) (b : List ℕ) (w : Why) (k : ℕ) → 0 < more → key_of previous b ≡ refused w k → skim (entries_of any more previous b) ≡ refused w k
 no_key any zero previous b w k h f = absurd (omega arith)
 no_key any (suc n) previous b w k h f =
-    ap (λ r. skim (after r (λ key behind. after (any behind) (λ u x. after (entries_of any n (Some key) x) (λ es. got (entry key u es)))))) f
+    ap (λ r. skim (after r (λ key following. after (any following) (λ u x. after (entries_of any n (Some key) x) (λ es. got (entry key u es)))))) f
 
 -- ---- a block
 

@@ -10,7 +10,7 @@ use Rattle.ipld_tree.proofs.Fronts.{front_unique}
 use Rattle.dagcbor_decode.specs.Fronts.{SplitsLeaf}
 use Rattle.dagcbor_decode.specs.Decode.{Decoded, Why, got, refused, indefinite_size, after, argument_of, key_of, follows, items_of, entries_of, leaf_of, item_of, list_of, map_of}
 use Rattle.dagcbor_decode.specs.Told.{skim, IsRefused, count_of, front_of}
-use Rattle.dagcbor_decode.proofs.HeadLaws.{AreBytes, bytes_behind, head_got, if_not}
+use Rattle.dagcbor_decode.proofs.HeadLaws.{AreBytes, bytes_of_rest, head_got, if_not}
 use Rattle.dagcbor_decode.proofs.Parts.{skim_no, unskimmed}
 use Rattle.dagcbor_decode.proofs.Sound.{key_got, leaf_got}
 use Rattle.dagcbor_decode.proofs.Absent.{parts_need}
@@ -42,16 +42,16 @@ front_got : (steps : ℕ) (b rest : List ℕ) → AreBytes b → front_of steps 
 front_got zero b rest r e = absurd (cc e)
 front_got (suc steps) [] rest r e = absurd (cc e)
 front_got (suc steps) (first ∷ b) rest r e =
-    let behind = bytes_behind (first ∷ []) b r in
+    let following = bytes_of_rest (first ∷ []) b r in
     let c = if_not (first % 32 == 31) (refused indefinite_size (length b))
     (if first / 32 == 4 then skim (count_of (codes "array") steps first b) else if first / 32 == 5 then skim (count_of (codes "map") steps first b) else skim (leaf_of first b)) tt rest (λ x. absurd (cc x)) e in
     elim (eqb_tells (first / 32) 4) [
-      | inl h4 ↦ inr (counted (codes "array") steps first b rest behind (inl h4.1) (rw h4.0 at c.1))
+      | inl h4 ↦ inr (counted (codes "array") steps first b rest following (inl h4.1) (rw h4.0 at c.1))
       | inr h4 ↦ elim (eqb_tells (first / 32) 5) [
-        | inl h5 ↦ inr (counted (codes "map") steps first b rest behind (inr h5.1) (rw (h4.0, h5.0) at c.1))
+        | inl h5 ↦ inr (counted (codes "map") steps first b rest following (inr h5.1) (rw (h4.0, h5.0) at c.1))
         | inr h5 ↦
             let q = unskimmed (leaf_of first b) rest (rw (h4.0, h5.0) at c.1) in
-            let k = leaf_got first b q.0 rest behind q.1 in
+            let k = leaf_got first b q.0 rest following q.1 in
             inl (q.0, rest, k.0, omega (arith, k.1))
       ]
     ]

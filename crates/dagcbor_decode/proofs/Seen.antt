@@ -11,12 +11,12 @@ use Rattle.dagcbor_decode.specs.CidTest.{is_cid}
 use Rattle.dagcbor_decode.proofs.HeadLaws.{payload_front}
 
 abbrev pub IsEndWhy : Why → ℕ → Type 0
-IsEndWhy (eof name n) behind = behind ≡ 0
-IsEndWhy _ behind = ⊥
+IsEndWhy (eof name n) following = following ≡ 0
+IsEndWhy _ following = ⊥
 
 abbrev pub IsEnd : {A : Type 0} → Decoded A → Type 0
 IsEnd (got a rest) = ⊥
-IsEnd (refused why behind) = IsEndWhy why behind
+IsEnd (refused why following) = IsEndWhy why following
 
 -- whatever follows s, the result is this one for those bytes; and s with fewer bytes is cut
 pub record Decides {A : Type 0} (read : List ℕ → Decoded A) (s : List ℕ) (answer : List ℕ → Decoded A) : Type 0 where
@@ -25,7 +25,7 @@ pub record Decides {A : Type 0} (read : List ℕ → Decoded A) (s : List ℕ) (
 
 abbrev pub Seen : {A : Type 0} → (List ℕ → Decoded A) → List ℕ → Decoded A → Type 0
 Seen read b (got a rest) = (s : List ℕ) × (b ≡ s ++ rest) × Decides read s (got a)
-Seen read b (refused why behind) = IsEndWhy why behind ⊎ ((s rest : List ℕ) × (b ≡ s ++ rest) × (length rest ≡ behind) × Decides read s (λ x. refused why (length x)))
+Seen read b (refused why following) = IsEndWhy why following ⊎ ((s rest : List ℕ) × (b ≡ s ++ rest) × (length rest ≡ following) × Decides read s (λ x. refused why (length x)))
 
 abbrev pub Local : {A : Type 0} → (List ℕ → Decoded A) → Type 0
 Local read = (b : List ℕ) → Seen read b (read b)
@@ -89,10 +89,10 @@ decides_byte r x s answer c d = record { same = d.same; less = by }
     by zero l = c
     by (suc j) l = d.less j (omega (arith, l))
 
-behind_byte : {A : Type 0} (r : List ℕ → Decoded A) (x : ℕ) (b : List ℕ) → IsEnd (r []) → (q : Decoded A) → Seen (λ b. r (x ∷ b)) b q → Seen r (x ∷ b) q
-behind_byte r x b c (got a rest) h = (x ∷ h.0, ap (λ y. x ∷ y) h.1, decides_byte r x h.0 (got a) c h.2)
-behind_byte r x b c (refused w n) (inl k) = inl k
-behind_byte r x b c (refused w n) (inr h) = inr (x ∷ h.0, h.1, ap (λ y. x ∷ y) h.2, h.3, decides_byte r x h.0 (λ y. refused w (length y)) c h.4)
+after_byte : {A : Type 0} (r : List ℕ → Decoded A) (x : ℕ) (b : List ℕ) → IsEnd (r []) → (q : Decoded A) → Seen (λ b. r (x ∷ b)) b q → Seen r (x ∷ b) q
+after_byte r x b c (got a rest) h = (x ∷ h.0, ap (λ y. x ∷ y) h.1, decides_byte r x h.0 (got a) c h.2)
+after_byte r x b c (refused w n) (inl k) = inl k
+after_byte r x b c (refused w n) (inr h) = inr (x ∷ h.0, h.1, ap (λ y. x ∷ y) h.2, h.3, decides_byte r x h.0 (λ y. refused w (length y)) c h.4)
 
 cut_seen : {A : Type 0} (r : List ℕ → Decoded A) (q : Decoded A) → IsEnd q → Seen r [] q
 cut_seen r (got a rest) c = absurd c
@@ -100,7 +100,7 @@ cut_seen r (refused w n) c = inl c
 
 local_byte : {A : Type 0} (r : List ℕ → Decoded A) → IsEnd (r []) → ((x : ℕ) → Local (λ b. r (x ∷ b))) → Local r
 local_byte r c h [] = cut_seen r (r []) c
-local_byte r c h (x ∷ b) = behind_byte r x b c (r (x ∷ b)) (h x b)
+local_byte r c h (x ∷ b) = after_byte r x b c (r (x ∷ b)) (h x b)
 
 -- ---- heads and strings
 
@@ -190,7 +190,7 @@ local_items any h (suc count) = local_after any (λ u rest. after (items_of any 
 
 local_entries : (any : List ℕ → Decoded Tree) → Local any → (count : ℕ) (previous : Option (List ℕ)) → Local (entries_of any count previous)
 local_entries any h zero previous = local_got no_entries
-local_entries any h (suc count) previous = local_after (key_of previous) (λ key behind. after (any behind) (λ u rest. after (entries_of any count (Some key) rest) (λ es. got (entry key u es)))) (local_key previous)
+local_entries any h (suc count) previous = local_after (key_of previous) (λ key following. after (any following) (λ u rest. after (entries_of any count (Some key) rest) (λ es. got (entry key u es)))) (local_key previous)
     (λ key. local_after any (λ u rest. after (entries_of any count (Some key) rest) (λ es. got (entry key u es))) h
     (λ u. local_after (entries_of any count (Some key)) (λ es. got (entry key u es)) (local_entries any h count (Some key)) (λ es. local_got (entry key u es))))
 

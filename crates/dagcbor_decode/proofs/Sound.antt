@@ -13,7 +13,7 @@ use Rattle.ipld_tree.proofs.Fronts.{list_closed, item_closed, entry_closed}
 use Rattle.dagcbor_decode.specs.Decode.{Decoded, got, refused, mismatch, unsupported, require_utf8, no_cid, unordered_key, indefinite_size, after, payload, argument_of, string_of, utf8_of, text_of, key_of, follows, in_order, zero_and_cid, cid_bytes_of, cid_of, tag_of, link_of, simple_of, leaf_of, items_of, entries_of, by_major_type, item_of, list_of, map_of, decode, at_end}
 use Rattle.dagcbor_decode.specs.CidTest.{is_cid}
 use Rattle.dagcbor_decode.proofs.CidTest.{cid_tested}
-use Rattle.dagcbor_decode.proofs.HeadLaws.{after_got, if_only, if_not, same_read, payload_got, head_got, AreBytes, bytes_behind}
+use Rattle.dagcbor_decode.proofs.HeadLaws.{after_got, if_only, if_not, same_read, payload_got, head_got, AreBytes, bytes_of_rest}
 
 -- what holds of the one holds of the other
 got_in : {A : Type 0} (P : A → List ℕ → Type 0) (a c : A) (x y : List ℕ) → got a x ≡ got c y → P a x → P c y
@@ -48,7 +48,7 @@ key_got previous (first ∷ b) key rest r e =
     let h = after_got (text_of (codes "map key") first b) (in_order previous) key rest m.1 in
     let c = if_only (follows previous h.0) (got h.0 h.1) (refused unordered_key (length h.1)) key rest (λ x. absurd (cc x)) h.3 in
     got_in (λ key rest. IsFront (first ∷ b) (text key) rest × (follows previous key ≡ true)) h.0 key h.1 rest c.1
-    (text_got (codes "map key") first b h.0 h.1 (bytes_behind (first ∷ []) b r) (eqb-true (first / 32) 3 m.0) h.2, c.0)
+    (text_got (codes "map key") first b h.0 h.1 (bytes_of_rest (first ∷ []) b r) (eqb-true (first / 32) 3 m.0) h.2, c.0)
 
 -- ---- links
 
@@ -72,7 +72,7 @@ cid_got (first ∷ b) u rest r e =
     let p = after_got (payload (codes "cid") h.0 h.1) (zero_and_cid) u rest l.1 in
     let z = zero_got p.0 p.1 u rest p.3 in
     let at_end : string_of (codes "cid") first b ≡ got p.0 p.1 = ap (λ x. after x (payload (codes "cid"))) h.2 ∙ p.2 in
-    let k = string_got (codes "cid") 2 first b p.0 p.1 (bytes_behind (first ∷ []) b r) (eqb-true (first / 32) 2 m.0) at_end in
+    let k = string_got (codes "cid") 2 first b p.0 p.1 (bytes_of_rest (first ∷ []) b r) (eqb-true (first / 32) 2 m.0) at_end in
     (z.0, z.3, z.2, subst (λ x. IsString 2 (first ∷ b) x rest) {x = p.0} {y = 0x00 ∷ z.0} z.1 (subst (λ x. IsString 2 (first ∷ b) p.0 x) {x = p.1} {y = rest} z.4 k))
 
 -- a leaf
@@ -83,7 +83,7 @@ tagged_got : (b : List ℕ) (u : Tree) (rest : List ℕ) → AreBytes b → tag_
 tagged_got [] u rest r e = absurd (cc e)
 tagged_got (second ∷ b) u rest r e =
     let m = if_only (second == 0x2a) (cid_of b) (refused (mismatch (codes "CBOR tag") second) (length b)) u rest (λ x. absurd (cc x)) e in
-    let k = cid_got b u rest (bytes_behind (second ∷ []) b r) m.1 in
+    let k = cid_got b u rest (bytes_of_rest (second ∷ []) b r) m.1 in
     subst (λ u. IsLeafFront (0xd8 ∷ second ∷ b) u rest) (sym k.1)
     (record { well_formed = k.2; spellable = omega (arith, k.3.0); is = ap₂ (λ x y. 0xd8 ∷ x ∷ y) (eqb-true second 0x2a m.0) k.3.1 }, omega arith)
 
@@ -149,7 +149,7 @@ abbrev pub IsSound : (List ℕ → Decoded Tree) → ℕ → Type 0
 IsSound any steps = (b : List ℕ) (u : Tree) (rest : List ℕ) → AreBytes b → any b ≡ got u rest → IsFront b u rest × (any_need u ≤ steps)
 
 bytes_after : (b rest : List ℕ) (u : Tree) → IsFront b u rest → AreBytes b → AreBytes rest
-bytes_after b rest u h r = bytes_behind (spelling u) rest (subst AreBytes h.is r)
+bytes_after b rest u h r = bytes_of_rest (spelling u) rest (subst AreBytes h.is r)
 
 pub items_got : (any : List ℕ → Decoded Tree) (steps : ℕ) → IsSound any steps → (count : ℕ) (b : List ℕ) (us : Items) (rest : List ℕ) → AreBytes b → items_of any count b ≡ got us rest
     → (item_count us ≡ count) × AreFronts b us rest × (items_need us ≤ steps)
@@ -184,7 +184,7 @@ pub entries_got : (any : List ℕ → Decoded Tree) (steps : ℕ) → IsSound an
 entries_got any steps sound zero previous b es rest r e =
     got_in (λ es rest. IsRead steps 0 previous b es rest) no_entries es b rest e (refl, record { well_formed = tt; spellable = tt; is = refl }, omega arith, none_first previous)
 entries_got any steps sound (suc count) previous b es rest r e =
-    let h = after_got (key_of previous b) (λ key behind. after (any behind) (λ u mid. after (entries_of any count (Some key) mid) (λ es. got (entry key u es)))) es rest e in
+    let h = after_got (key_of previous b) (λ key following. after (any following) (λ u mid. after (entries_of any count (Some key) mid) (λ es. got (entry key u es)))) es rest e in
     let k = key_got previous b h.0 h.1 r h.2 in
     let r1 = bytes_after b h.1 (text h.0) k.0 r in
     let v = after_got (any h.1) (λ u mid. after (entries_of any count (Some h.0) mid) (λ es. got (entry h.0 u es))) es rest h.3 in
@@ -213,9 +213,9 @@ item_got list_of map_of steps first b u rest r of_list of_map e =
 list_got : (steps first : ℕ) (b : List ℕ) (u : Tree) (rest : List ℕ) → IsSound (item_of steps) steps → AreBytes (first ∷ b) → first / 32 ≡ 4 → list_of (suc steps) first b ≡ got u rest → IsFront (first ∷ b) u rest × (any_need u ≤ suc (suc steps))
 list_got steps first b u rest sound r m e =
     let h = after_got (argument_of (codes "array") first b) (λ n rest. after (items_of (item_of steps) n rest) (λ us. got (list us))) u rest e in
-    let k = head_got (codes "array") first h.0 b h.1 (bytes_behind (first ∷ []) b r) h.2 in
+    let k = head_got (codes "array") first h.0 b h.1 (bytes_of_rest (first ∷ []) b r) h.2 in
     let i = after_got (items_of (item_of steps) h.0 h.1) (λ us. got (list us)) u rest h.3 in
-    let l = items_got (item_of steps) steps sound h.0 h.1 i.0 i.1 (bytes_behind (head (first / 32) h.0) h.1 (subst AreBytes k.1 r)) i.2 in
+    let l = items_got (item_of steps) steps sound h.0 h.1 i.0 i.1 (bytes_of_rest (head (first / 32) h.0) h.1 (subst AreBytes k.1 r)) i.2 in
     let is : first ∷ b ≡ head 4 (item_count i.0) ++ h.1 = k.1 ∙ ap₂ (λ x y. head x y ++ h.1) m (sym l.0) in
     got_in (λ u rest. IsFront (first ∷ b) u rest × (any_need u ≤ suc (suc steps))) (list i.0) u i.1 rest i.3
     (subst (λ x. IsFront x (list i.0) i.1) (sym is) (list_closed h.1 i.1 i.0 (omega (arith, k.0, l.0)) l.1), omega (arith, l.2))
@@ -223,9 +223,9 @@ list_got steps first b u rest sound r m e =
 map_got : (steps first : ℕ) (b : List ℕ) (u : Tree) (rest : List ℕ) → IsSound (item_of steps) steps → AreBytes (first ∷ b) → first / 32 ≡ 5 → map_of (suc steps) first b ≡ got u rest → IsFront (first ∷ b) u rest × (any_need u ≤ suc (suc steps))
 map_got steps first b u rest sound r m e =
     let h = after_got (argument_of (codes "map") first b) (λ n rest. after (entries_of (item_of steps) n None rest) (λ us. got (mapping us))) u rest e in
-    let k = head_got (codes "map") first h.0 b h.1 (bytes_behind (first ∷ []) b r) h.2 in
+    let k = head_got (codes "map") first h.0 b h.1 (bytes_of_rest (first ∷ []) b r) h.2 in
     let i = after_got (entries_of (item_of steps) h.0 None h.1) (λ us. got (mapping us)) u rest h.3 in
-    let l = entries_got (item_of steps) steps sound h.0 None h.1 i.0 i.1 (bytes_behind (head (first / 32) h.0) h.1 (subst AreBytes k.1 r)) i.2 in
+    let l = entries_got (item_of steps) steps sound h.0 None h.1 i.0 i.1 (bytes_of_rest (head (first / 32) h.0) h.1 (subst AreBytes k.1 r)) i.2 in
     let is : first ∷ b ≡ head 5 (entry_count i.0) ++ h.1 = k.1 ∙ ap₂ (λ x y. head x y ++ h.1) m (sym l.0) in
     got_in (λ u rest. IsFront (first ∷ b) u rest × (any_need u ≤ suc (suc steps))) (mapping i.0) u i.1 rest i.3 (
       record {
@@ -238,11 +238,11 @@ map_got steps first b u rest sound r m e =
 
 two_more : (steps : ℕ) → IsSound (item_of steps) steps → IsSound (item_of (suc (suc steps))) (suc (suc steps))
 two_more steps h [] u rest r e = absurd (cc e)
-two_more steps h (first ∷ b) u rest r e = item_got (list_of (suc steps)) (map_of (suc steps)) (suc steps) first b u rest (bytes_behind (first ∷ []) b r) (list_got steps first b u rest h r) (map_got steps first b u rest h r) e
+two_more steps h (first ∷ b) u rest r e = item_got (list_of (suc steps)) (map_of (suc steps)) (suc steps) first b u rest (bytes_of_rest (first ∷ []) b r) (list_got steps first b u rest h r) (map_got steps first b u rest h r) e
 
 one_step : IsSound (item_of 1) 1
 one_step [] u rest r e = absurd (cc e)
-one_step (first ∷ b) u rest r e = item_got (list_of 0) (map_of 0) 0 first b u rest (bytes_behind (first ∷ []) b r) (λ m e. absurd (cc e)) (λ m e. absurd (cc e)) e
+one_step (first ∷ b) u rest r e = item_got (list_of 0) (map_of 0) 0 first b u rest (bytes_of_rest (first ∷ []) b r) (λ m e. absurd (cc e)) (λ m e. absurd (cc e)) e
 
 -- What is read is at the front, and takes no more than the steps.
 pub any_got : (steps : ℕ) → IsSound (item_of steps) steps

@@ -53,7 +53,7 @@ pub(crate) fn split_key(bytes: &[u8]) -> Option<(&[u8], &[u8])>
 
 /// Returns the bytes after the byte string of a zero and a CID.
 #[inline(always)]
-fn behind_cid(bytes: &[u8]) -> Option<&[u8]>
+fn after_cid(bytes: &[u8]) -> Option<&[u8]>
     ensures { MatchOption result
         (¬ ((cid : List ℕ) × (rest : List ℕ) × SplitsCid bytes.now cid rest))
         (λ rest. (cid : List ℕ) × SplitsCid bytes.now cid rest.now) }
@@ -75,7 +75,7 @@ fn behind_cid(bytes: &[u8]) -> Option<&[u8]>
 
 /// Returns the bytes after the content of a tag of this number, if it is the tag of links.
 #[inline(always)]
-fn behind_tag(number: u64, bytes: &[u8]) -> Option<&[u8]>
+fn after_tag(number: u64, bytes: &[u8]) -> Option<&[u8]>
     ensures { MatchOption result
         (number ≡ 42 → ¬ ((cid : List ℕ) × (rest : List ℕ) × SplitsCid bytes.now cid rest))
         (λ rest. (cid : List ℕ) × (number ≡ 42) × SplitsCid bytes.now cid rest.now) }
@@ -83,11 +83,11 @@ fn behind_tag(number: u64, bytes: &[u8]) -> Option<&[u8]>
     if number != 42 {
         return None;
     }
-    behind_cid(bytes)
+    after_cid(bytes)
 }
 
 /// Returns the bytes after the link at the front, or `None` if there is no link.
-pub fn behind_link(bytes: &[u8]) -> Option<&[u8]>
+pub fn after_link(bytes: &[u8]) -> Option<&[u8]>
     ensures { MatchOption result
         (¬ ((cid : List ℕ) × (rest : List ℕ) × IsFront bytes.now (link cid) rest))
         (λ rest. (cid : List ℕ) × IsFront bytes.now (link cid) rest.now) }
@@ -96,12 +96,12 @@ pub fn behind_link(bytes: &[u8]) -> Option<&[u8]>
     if major != 6 {
         return None;
     }
-    behind_tag(number, more)
+    after_tag(number, more)
 }
 
 /// Returns the bytes after a simple value, if it is false, true or null.
 #[inline(always)]
-fn behind_simple(value: u64, bytes: &[u8]) -> Option<&[u8]>
+fn after_simple(value: u64, bytes: &[u8]) -> Option<&[u8]>
     ensures { MatchOption result (20 ≤ value → ¬ (value ≤ 22))
         (λ rest. (20 ≤ value) × (value ≤ 22) × (rest.now ≡ bytes.now)) }
 {
@@ -117,7 +117,7 @@ fn behind_simple(value: u64, bytes: &[u8]) -> Option<&[u8]>
 /// Returns the bytes after an item whose head was split off, if it is a leaf: neither a list nor a
 /// map.
 #[inline(always)]
-pub fn behind_leaf(major: u8, argument: u64, more: &[u8]) -> Option<&[u8]>
+pub fn after_leaf(major: u8, argument: u64, more: &[u8]) -> Option<&[u8]>
     ensures { (b : List ℕ) → SplitsHead b major argument more.now → MatchOption result
         (¬ ((rest : List ℕ) × SplitsLeaf b rest)) (λ rest. SplitsLeaf b rest.now) }
 {
@@ -132,8 +132,8 @@ pub fn behind_leaf(major: u8, argument: u64, more: &[u8]) -> Option<&[u8]>
             let (_text, rest) = split_text(more, argument)?;
             Some(rest)
         }
-        6 => behind_tag(argument, more),
-        7 => behind_simple(argument, more),
+        6 => after_tag(argument, more),
+        7 => after_simple(argument, more),
         _ => None,
     }
 }

@@ -8,7 +8,7 @@ ghost use Rattle.dagcbor_decode.specs.Told.{left_or, left_of, rest_or, skim, why
 ghost use Rattle.dagcbor_decode.specs.Decode.{got, refused, key_of, items_of, entries_of, item_of};
 
 use crate::cause::Stop;
-use crate::front::{behind_leaf, split_key};
+use crate::front::{after_leaf, split_key};
 use crate::part::{follows, front_of, key_of};
 use dagcbor_core::split_head;
 
@@ -82,7 +82,7 @@ pub(crate) fn judge_item<'b>(steps: usize, bytes: &'b [u8], stop: &mut Stop) -> 
                 return Some(last(more, left));
             }
         } else if steps >= 1 {
-            if let Some(rest) = behind_leaf(major, argument, more) {
+            if let Some(rest) = after_leaf(major, argument, more) {
                 return Some(rest);
             }
         }

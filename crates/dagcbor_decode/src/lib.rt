@@ -19,7 +19,7 @@ mod slices;
 mod text;
 
 pub use cid::is_cid;
-pub use front::{behind_leaf, behind_link, split_payload};
+pub use front::{after_leaf, after_link, split_payload};
 pub use kind::{Kind, kind_at, kind_of_front};
 pub use links::{first_item, links_from_slice, links_of_items, next_link};
 pub use part::follows;

@@ -12,7 +12,7 @@
      there, and nobody writes them during the call, no other thread either; `length` is below 2^63.
    - `out` likewise, also where `room` is 0 (dagcbor_into), for `room` bytes that nobody else reads or writes
      during the call; `tape` for `room` tokens (dagcbor_tape_into, dagcbor_compact_tape_into), aligned as their numbers,
-     and fewer than 2^58 of them; `needed`, `place` and `behind` for one number each, `places` for three, or two; `walk` for one walk.
+     and fewer than 2^58 of them; `needed`, `place` and `following` for one number each, `places` for three, or two; `walk` for one walk.
      None of these overlaps another.
    - The thread has 128 KB of stack left; the CPU is an x86-64-v2.
    Calls on different threads need no lock: nothing is shared between them. */
@@ -178,12 +178,12 @@ int32_t dagcbor_verify(const uint8_t *cid, size_t cid_length, const uint8_t *blo
    part of it: hand no byte after places[1] to the calls below. */
 int32_t dagcbor_car_span(const uint8_t *bytes, size_t length, uint64_t places[2]);
 
-/* The header that begins the bytes of a CAR file, of version 1. 0 exactly where one does: *behind becomes where the
+/* The header that begins the bytes of a CAR file, of version 1. 0 exactly where one does: *following becomes where the
    first section begins, and *needed the length of its roots, packed as dagcbor_links packs links; where that is at most
    `room` they are put at the front of `out`, and else `out` stays as it was. Else, below 0, DAGCBOR_TRUNCATED,
    DAGCBOR_INVALID_LENGTH, the refusal of the bytes after the length where they are no block, or DAGCBOR_OTHER_HEADER.
-   Then *needed is 0, and `out` and *behind are as they were. */
-int32_t dagcbor_car_header(const uint8_t *bytes, size_t length, uint8_t *out, size_t room, size_t *needed, size_t *behind);
+   Then *needed is 0, and `out` and *following are as they were. */
+int32_t dagcbor_car_header(const uint8_t *bytes, size_t length, uint8_t *out, size_t room, size_t *needed, size_t *following);
 
 /* The section that begins the bytes, as one after the header of a CAR file. From 0 where nothing is wrong with its
    block: the number of its kind, or DAGCBOR_NOT_READ. Below 0 that of the refusal of the block, which is the one that is

@@ -9,19 +9,19 @@
 ghost use Rattle.std.specs.Prelude.{◌≡◌, ◌≤◌, length};
 ghost use Rattle.ipld_tree.specs.Cid.{cid_bytes};
 ghost use Rattle.ipld_links.specs.Names.{block_name};
-ghost use Rattle.dagcbor_calls.specs.Codes.{check_code};
-ghost use Rattle.dagcbor_calls.specs.Answers.{tape_answer, spell_answer};
-ghost use Rattle.dagcbor_calls.specs.Answers.{links_answer, IsTokensAnswer};
-ghost use Rattle.dagcbor_calls.specs.CompactTapes.{compact_tape_answer};
-ghost use Rattle.dagcbor_calls.specs.Headers.{IsHeaderAnswer};
-ghost use Rattle.dagcbor_calls.specs.Sections.{IsSectionAnswer, IsVerifyAnswer};
-ghost use Rattle.dagcbor_calls.specs.Spans.{IsSpanAnswer};
-ghost use Rattle.dagcbor_calls.specs.Walks.{IsNextAnswer};
-ghost use Rattle.dagcbor_calls.specs.Finds.{IsFindAnswer, IsPartAnswer, IsFollowAnswer};
-ghost use Rattle.dagcbor_calls.specs.CidTexts.{IsCidTextAnswer, IsCidFromTextAnswer};
-ghost use Rattle.dagcbor_calls.specs.Nodes.{IsFromNodeAnswer, IsNodeLinksAnswer, IsToNodeAnswer};
+ghost use Rattle.abi_calls.specs.Codes.{check_code};
+ghost use Rattle.abi_calls.specs.Answers.{tape_answer, spell_answer};
+ghost use Rattle.abi_calls.specs.Answers.{links_answer, IsTokensAnswer};
+ghost use Rattle.abi_calls.specs.CompactTapes.{compact_tape_answer};
+ghost use Rattle.abi_calls.specs.Headers.{IsHeaderAnswer};
+ghost use Rattle.abi_calls.specs.Sections.{IsSectionAnswer, IsVerifyAnswer};
+ghost use Rattle.abi_calls.specs.Spans.{IsSpanAnswer};
+ghost use Rattle.abi_calls.specs.Walks.{IsNextAnswer};
+ghost use Rattle.abi_calls.specs.Finds.{IsFindAnswer, IsPartAnswer, IsFollowAnswer};
+ghost use Rattle.abi_calls.specs.CidTexts.{IsCidTextAnswer, IsCidFromTextAnswer};
+ghost use Rattle.abi_calls.specs.Nodes.{IsFromNodeAnswer, IsNodeLinksAnswer, IsToNodeAnswer};
 
-use dagcbor_calls::{
+use abi_calls::{
     CarWalk, CompactToken, Token, check, judge_named, judge_section, name_of, next_of_car,
     put_cid_of_text, put_cid_text, put_compact_tape, put_followed, put_found, put_from_node,
     put_front_tape, put_header, put_links, put_node_links, put_part, put_span, put_tape,
@@ -190,7 +190,7 @@ pub extern "C" fn dagcbor_car_span(bytes: &[u8], places: &mut [u64; 2]) -> i32
 }
 
 /// Reads the header, of version 1, that begins the bytes of a CAR file. Returns 0 if there is one:
-/// `behind` becomes where the first section begins, and `needed` the length of its roots, packed as
+/// `following` becomes where the first section begins, and `needed` the length of its roots, packed as
 /// `dagcbor_links` packs links; if they all fit, they are put at the front of `out`; else `out`
 /// stays. Else it returns the number of the cause: -24 and -25 as for a section, that of the
 /// refusal if no block follows the length, and -27 if the block is not a header of roots and of
@@ -200,11 +200,11 @@ pub extern "C" fn dagcbor_car_header(
     bytes: &[u8],
     out: &mut [u8],
     needed: &mut usize,
-    behind: &mut usize,
+    following: &mut usize,
 ) -> i32
-    ensures { IsHeaderAnswer bytes.now out.old out.new needed.new behind.old behind.new result }
+    ensures { IsHeaderAnswer bytes.now out.old out.new needed.new following.old following.new result }
 {
-    put_header(bytes, out, needed, behind)
+    put_header(bytes, out, needed, following)
 }
 
 /// Takes what comes next in a CAR file, of version 1 or 2. The bytes are those from `walk.place`

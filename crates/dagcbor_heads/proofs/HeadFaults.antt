@@ -54,7 +54,7 @@ argument_refused {E} {old} {mid} {first} {width} new e is t r =
       payload = bytes_high_first (argument_width (first % 32)) h.argument;
       rest = h.rest;
       long = length-bytes_high_first (argument_width (first % 32)) h.argument ∙ sym is;
-      left = k.1 ∙ ap Some k.2.behind;
+      left = k.1 ∙ ap Some k.2.following;
     })
     (λ x. x) (λ x. x)
     (λ b l. let k = t.taken b l in (k.0, k.2, λ c. subst (HeadCause e) (sym k.1) (argument_in_head e first k.0 (subst (λ w. ArgumentCause w e k.0) is c)))) r
@@ -67,7 +67,7 @@ too_long E {old} {mid} {new} {first} {n} {width} name is wide fits small t u = (
   λ h. let k = head_begins t h in
       let q = u.taken k.0 k.1 in
       let w = argument_width (first % 32) in
-      let at : bytes_high_first w n ++ q.0 ≡ bytes_high_first w h.argument ++ h.rest = ap (λ x. bytes_high_first x n ++ q.0) (sym is) ∙ sym q.1 ∙ k.2.behind in
+      let at : bytes_high_first w n ++ q.0 ≡ bytes_high_first w h.argument ++ h.rest = ap (λ x. bytes_high_first x n ++ q.0) (sym is) ∙ sym q.1 ∙ k.2.following in
       let same : n ≡ h.argument = same_of_bytes w n h.argument q.0 h.rest (subst (λ x. n < 256 ^ x) is fits) (k.2.fits wide) at in
       omega (arith, same, subst (λ x. n < least_argument x) is small, k.2.least),
   λ b l. let k = t.taken b l in

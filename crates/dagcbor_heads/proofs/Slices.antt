@@ -15,19 +15,19 @@ same_left r l k = cc
 pub slice_takes : {old new : Reading} {b taken rest : List ℕ} → old.left ≡ Some b → new.left ≡ Some rest → Stays old new → b ≡ taken ++ rest → Takes old taken new
 slice_takes {old} {new} {b} {taken} {rest} l m s e = record { taken = λ x k. (rest, same_left old l k ∙ e, m); same = s }
 
-pub slice_head : {old new : Reading} {b behind rest : List ℕ} {first major argument : ℕ} → old.left ≡ Some b → new.left ≡ Some rest → Stays old new → b ≡ first ∷ behind → SplitsHead b major argument rest
+pub slice_head : {old new : Reading} {b following rest : List ℕ} {first major argument : ℕ} → old.left ≡ Some b → new.left ≡ Some rest → Stays old new → b ≡ first ∷ following → SplitsHead b major argument rest
     → TakesHead old major argument first new
-slice_head {old} {new} {b} {behind} {rest} {first} {major} {argument} l m s e h = record {
+slice_head {old} {new} {b} {following} {rest} {first} {major} {argument} l m s e h = record {
   major_fits = h.0;
   argument_fits = h.1;
-  major_of_first = (begins first behind major argument rest h.1 (sym e ∙ h.2)).major_is;
-  starts = λ x k. (behind, same_left old l k ∙ e);
+  major_of_first = (begins first following major argument rest h.1 (sym e ∙ h.2)).major_is;
+  starts = λ x k. (following, same_left old l k ∙ e);
   takes = slice_takes l m s h.2;
 }
 
 -- a head is of the major type of its first byte
-pub head_of_first : (first major argument : ℕ) (behind rest : List ℕ) {b : List ℕ} {kind : ℕ} → b ≡ first ∷ behind → first / 32 ≡ kind → SplitsHead b major argument rest → SplitsHead b kind argument rest
-head_of_first first major argument behind rest {b} {kind} e is h = subst (λ m. SplitsHead b m argument rest) (sym (begins first behind major argument rest h.1 (sym e ∙ h.2)).major_is ∙ is) h
+pub head_of_first : (first major argument : ℕ) (following rest : List ℕ) {b : List ℕ} {kind : ℕ} → b ≡ first ∷ following → first / 32 ≡ kind → SplitsHead b major argument rest → SplitsHead b kind argument rest
+head_of_first first major argument following rest {b} {kind} e is h = subst (λ m. SplitsHead b m argument rest) (sym (begins first following major argument rest h.1 (sym e ∙ h.2)).major_is ∙ is) h
 
 -- each byte was looked at once
 pub slice_looked : {old new : Reading} {b rest : List ℕ} (taken : List ℕ) → old.left ≡ Some b → new.left ≡ Some rest → b ≡ taken ++ rest → new.looked + length rest ≡ old.looked + length b → new.shown ≡ [] → LooksAtTaken 2 0 old new
@@ -54,6 +54,6 @@ slice_at_most before now {b} rest {major} {argument} h counted =
     omega (arith, ap length h.2, counted, length-append (head major argument) rest, head_short major argument h.1)
 
 -- a payload after a head
-pub slice_payload : {b payload rest : List ℕ} (front behind : List ℕ) (n : ℕ) → b ≡ front ++ behind → payload ≡ take n behind → rest ≡ drop n behind → b ≡ (front ++ payload) ++ rest
-slice_payload {b} {payload} {rest} front behind n e at past =
-    e ∙ ap (λ x. front ++ x) (sym (take-append-drop n behind) ∙ ap₂ (λ x y. x ++ y) (sym at) (sym past)) ∙ sym (append_assoc front payload rest)
+pub slice_payload : {b payload rest : List ℕ} (front following : List ℕ) (n : ℕ) → b ≡ front ++ following → payload ≡ take n following → rest ≡ drop n following → b ≡ (front ++ payload) ++ rest
+slice_payload {b} {payload} {rest} front following n e at past =
+    e ∙ ap (λ x. front ++ x) (sym (take-append-drop n following) ∙ ap₂ (λ x y. x ++ y) (sym at) (sym past)) ∙ sym (append_assoc front payload rest)

@@ -70,11 +70,11 @@ nothing_taken r = record { taken = λ b l. (b, refl, l); same = stays r }
 -- the part of a payload that one fill brought
 pub fill_gathers : {old mid new : Reading} {want n : ℕ} {before after : List ℕ} → Shows old want mid → n ≡ min want (length mid.shown) → after ≡ before ++ take n mid.shown → Advances mid n new
     → Gathers old before want n after new
-fill_gathers {old} {mid} {new} {want} {n} h is behind a = record {
+fill_gathers {old} {mid} {new} {want} {n} h is following a = record {
   bytes = take n mid.shown;
   counted = length-take-le n mid.shown (omega (arith, is));
   takes = front_taken n h (omega (arith, is)) a;
-  behind = behind;
+  following = following;
   most = omega (arith, is);
   none_left = λ none some b l. (h.front b l).end some (omega (arith, is));
 }

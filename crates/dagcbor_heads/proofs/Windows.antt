@@ -117,16 +117,16 @@ more_taken copies x taken source most n e =
 
 -- ---- a head
 
-pub head_begins : {b behind : List ℕ} {first major argument : ℕ} (rest : List ℕ) → b ≡ first ∷ behind → SplitsHead b major argument rest → BeginsWithHeadOf b major argument first (length b - length rest)
-head_begins {b} {behind} {first} {major} {argument} rest e h = record {
+pub head_begins : {b following : List ℕ} {first major argument : ℕ} (rest : List ℕ) → b ≡ first ∷ following → SplitsHead b major argument rest → BeginsWithHeadOf b major argument first (length b - length rest)
+head_begins {b} {following} {first} {major} {argument} rest e h = record {
   major_fits = h.0;
   argument_fits = h.1;
-  major_of_first = (begins first behind major argument rest h.1 (sym e ∙ h.2)).major_is;
+  major_of_first = (begins first following major argument rest h.1 (sym e ∙ h.2)).major_is;
   counted = omega (arith, ap length h.2, length-append (head major argument) rest);
   short = omega (arith, ap length h.2, length-append (head major argument) rest, head_short major argument h.1);
   rest = rest;
   is = h.2;
-  more = behind;
+  more = following;
   starts = e;
 }
 
@@ -137,9 +137,9 @@ pub shown_told : (copies x : List ℕ) (taken : ℕ) (source : Option (List ℕ)
     → take (length (take want (drop taken copies))) x ≡ take want (drop taken copies)
 shown_told copies x taken source most want few e =
     let k = copied_first copies x taken source most few e in
-    let behind = drop taken copies in
-    ap (take (length (take want behind))) k.1 ∙ take-append-le _ behind k.0 (let l = length-take want behind in omega (arith, l))
-    ∙ ap (λ n. take n behind) (length-take want behind) ∙ take_min want behind
+    let following = drop taken copies in
+    ap (take (length (take want following))) k.1 ∙ take-append-le _ following k.0 (let l = length-take want following in omega (arith, l))
+    ∙ ap (λ n. take n following) (length-take want following) ∙ take_min want following
 
 if_told : (o : Option (List ℕ)) (P : List ℕ → Type 0) → ((x : List ℕ) → o ≡ Some x → P x) → IfSome o P
 if_told None P f = tt
@@ -182,7 +182,7 @@ shown_window old source most want mid new e few h = subst
 
 -- ---- a head that is taken
 
-module _ (old new : Reading) (w after : Windowed) (source : Option (List ℕ)) (most : Option ℕ) (before : old.left ≡ bytes_told w.copies w.taken source most) (behind : new.left ≡ bytes_told after.copies after.taken source most) where
+module _ (old new : Reading) (w after : Windowed) (source : Option (List ℕ)) (most : Option ℕ) (before : old.left ≡ bytes_told w.copies w.taken source most) (following : new.left ≡ bytes_told after.copies after.taken source most) where
   rest_of : {major argument first : ℕ} → TakesHeadOf w major argument first after → (b : List ℕ) → old.left ≡ Some b
       → (rest : List ℕ) × (b ≡ head major argument ++ rest) × (new.left ≡ Some rest) × ((more : List ℕ) × (b ≡ first ∷ more))
   rest_of {major} {argument} {first} h b l =
@@ -191,7 +191,7 @@ module _ (old new : Reading) (w after : Windowed) (source : Option (List ℕ)) (
       let e : b ≡ head major argument ++ (f.rest ++ k.0) = k.1 ∙ ap (λ s. s ++ k.0) f.is ∙ append_assoc (head major argument) f.rest k.0 in
       let m = more_taken w.copies b w.taken source most h.count (sym before ∙ l) in
       let past : drop h.count b ≡ f.rest ++ k.0 = ap₂ (λ n s. drop n s) f.counted e ∙ drop-append_seam (head major argument) (f.rest ++ k.0) in
-      (f.rest ++ k.0, e, behind ∙ ap (λ (v : Windowed). bytes_told v.copies v.taken source most) h.is ∙ m ∙ ap Some past, (f.more ++ k.0, k.1 ∙ ap (λ s. s ++ k.0) f.starts))
+      (f.rest ++ k.0, e, following ∙ ap (λ (v : Windowed). bytes_told v.copies v.taken source most) h.is ∙ m ∙ ap Some past, (f.more ++ k.0, k.1 ∙ ap (λ s. s ++ k.0) f.starts))
 
   head_taken : {major argument first : ℕ} → Stays old new → TakesHeadOf w major argument first after → TakesHead old major argument first new
   head_taken {major} {argument} {first} same h = record {
@@ -237,7 +237,7 @@ module _ (old new : Reading) (w after : Windowed) (source : Option (List ℕ)) (
               let k = copied_first w.copies b w.taken source most within (sym before ∙ l) in (
                 drop n b,
                 sym (take-append-drop n b) ∙ ap (λ s. s ++ drop n b) (ap (take n) k.1 ∙ take-append-le n x k.0 few),
-                behind ∙ ap (λ (v : Windowed). bytes_told v.copies v.taken source most) e ∙ more_taken w.copies b w.taken source most n (sym before ∙ l),
+                following ∙ ap (λ (v : Windowed). bytes_told v.copies v.taken source most) e ∙ more_taken w.copies b w.taken source most n (sym before ∙ l),
               )
               );
           same = same;

@@ -70,6 +70,6 @@ pub record Gathers (old : Reading) (before : List ℕ) (want count : ℕ) (after
   pub bytes : List ℕ
   pub counted : length bytes ≡ count
   pub takes : Takes old bytes new
-  pub behind : after ≡ before ++ bytes
+  pub following : after ≡ before ++ bytes
   pub most : count ≤ want
   pub none_left : count ≡ 0 → 0 < want → (b : List ℕ) → old.left ≡ Some b → b ≡ []

@@ -38,14 +38,14 @@ pub record LooksAtLeft (times before : ℕ) (old new : Reading) : Type 0 where
   pub most : (b : List ℕ) → old.left ≡ Some b → before + new.looked ≤ old.looked + times * length b
 
 -- A call that returns `Ok` looks as in `LooksAtTaken`, one that refuses as in `LooksAtLeft`.
-abbrev pub LooksBehind : {T E : Type 0} → (times before : ℕ) → Reading → Result T E → Reading
+abbrev pub LooksAfter : {T E : Type 0} → (times before : ℕ) → Reading → Result T E → Reading
     → Type 0
-LooksBehind times before old result new = MatchResult result (λ _. LooksAtTaken times before old new) (λ _. LooksAtLeft times before old new)
+LooksAfter times before old result new = MatchResult result (λ _. LooksAtTaken times before old new) (λ _. LooksAtLeft times before old new)
 
 -- A call that returns `Ok` looks at most `times` times at each byte that it takes, a refused one at
 -- each byte that was left.
 abbrev pub Looks : {T E : Type 0} → (times : ℕ) → Reading → Result T E → Reading → Type 0
-Looks times = LooksBehind times 0
+Looks times = LooksAfter times 0
 
 -- A call that returns `Ok`, and may have taken no byte, looks at most `times` times at each byte
 -- that it takes, a refused one at each byte that was left.

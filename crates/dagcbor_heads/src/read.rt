@@ -177,15 +177,15 @@ impl<'a> SliceReader<'a> {
         ensures shown { IfSome result (λ _. self.new.shown ≡ []) }
         ensures looked { IfSome result (λ _. LooksAtTaken 2 0 self.old self.new) }
     {
-        let (first, _behind) = self.rest.split_first()?;
+        let (first, _following) = self.rest.split_first()?;
         if *first / 32 != kind {
             return None;
         }
-        let (_major, count, behind) = split_head(self.rest)?;
-        if (behind.len() as u64) < count {
+        let (_major, count, following) = split_head(self.rest)?;
+        if (following.len() as u64) < count {
             return None;
         }
-        let (payload, rest) = behind.split_at(count as usize);
+        let (payload, rest) = following.split_at(count as usize);
         self.looked.add(self.rest.len() - rest.len());
         self.rest = rest;
         self.shown = 0;
@@ -230,7 +230,7 @@ impl Read for SliceReader<'_> {
 
     #[inline(always)]
     fn take_head(&mut self) -> Option<(u8, u64, u8)> {
-        let (first, _behind) = self.rest.split_first()?;
+        let (first, _following) = self.rest.split_first()?;
         let first = *first;
         let (major, argument, rest) = split_head(self.rest)?;
         self.looked.add(self.rest.len() - rest.len());

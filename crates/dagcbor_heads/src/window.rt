@@ -243,7 +243,7 @@ impl Window {
 fn whole_head(bytes: &[u8]) -> Option<(u8, u64, u8, usize)>
     ensures { IfSome result (λ h. BeginsWithHeadOf bytes.now h.0 h.1 h.2 h.3) }
 {
-    let (first, _behind) = bytes.split_first()?;
+    let (first, _following) = bytes.split_first()?;
     let first = *first;
     let (major, argument, rest) = split_head(bytes)?;
     Some((major, argument, first, bytes.len() - rest.len()))

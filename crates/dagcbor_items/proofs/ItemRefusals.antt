@@ -136,13 +136,13 @@ in_map {E} count steps e b c fits opens h = at_steps {E = E} e b (suc (suc steps
 
 -- ---- after whole ones
 
-pub behind_items : {E : Type 0} (ts : Items) (count steps : ℕ) (e : DecodeError E) (b c : List ℕ) → AreFronts b ts c → item_count ts < count → items_need ts ≤ steps → ItemCause steps e c → ItemsCause count steps e b
-behind_items ts zero steps e b c f few need h = absurd (omega (arith, few))
-behind_items no_items (suc count) steps e b c f few need h = refused_after (item_of steps b) (λ t rest. after (items_of (item_of steps) count rest) λ ts. got (item t ts)) e (subst (λ x. ItemCause steps e x) (sym f.is) h)
-behind_items (item t ts) (suc count) steps e b c f few need h =
+pub after_items : {E : Type 0} (ts : Items) (count steps : ℕ) (e : DecodeError E) (b c : List ℕ) → AreFronts b ts c → item_count ts < count → items_need ts ≤ steps → ItemCause steps e c → ItemsCause count steps e b
+after_items ts zero steps e b c f few need h = absurd (omega (arith, few))
+after_items no_items (suc count) steps e b c f few need h = refused_after (item_of steps b) (λ t rest. after (items_of (item_of steps) count rest) λ ts. got (item t ts)) e (subst (λ x. ItemCause steps e x) (sym f.is) h)
+after_items (item t ts) (suc count) steps e b c f few need h =
     let o = item_opened b c t ts f in
     refused_then (item_of steps b) (λ t rest. after (items_of (item_of steps) count rest) λ ts. got (item t ts)) t _ e (any_reads steps b t _ o.0 (omega (arith, need)))
-    (refused_after (items_of (item_of steps) count _) (λ ts. got (item t ts)) e (behind_items ts count steps e _ c o.1 (omega (arith, few)) (omega (arith, need)) h))
+    (refused_after (items_of (item_of steps) count _) (λ ts. got (item t ts)) e (after_items ts count steps e _ c o.1 (omega (arith, few)) (omega (arith, need)) h))
 
 -- the last key, after a key that comes before them all
 pub last_after : Option (List ℕ) → Entries → Option (List ℕ)
@@ -177,14 +177,14 @@ after_entries (entry k t es) (suc count) steps previous e b c f follow few need 
     (refused_after (entries_of (item_of steps) count (Some k) _) (λ es. got (entry k t es)) e (after_entries es count steps (Some k) e _ c a.3 a.2 (omega (arith, few)) (omega (arith, need)) h)))
 
 -- a key
-pub behind_entries : {E : Type 0} (es : Entries) (count steps : ℕ) (e : DecodeError E) (b c : List ℕ) → AreEntryFronts b es c → entry_count es < count → entries_need es ≤ steps → KeyCause (last_key es) e c → EntriesCause count steps e b
-behind_entries {E} es count steps e b c f few need h = after_entries es count steps None e b c f tt few need
+pub after_entries : {E : Type 0} (es : Entries) (count steps : ℕ) (e : DecodeError E) (b c : List ℕ) → AreEntryFronts b es c → entry_count es < count → entries_need es ≤ steps → KeyCause (last_key es) e c → EntriesCause count steps e b
+after_entries {E} es count steps e b c f few need h = after_entries es count steps None e b c f tt few need
     (λ more. refused_after (key_of (last_after None es) c) (λ key value. after (item_of steps value) λ t rest. after (entries_of (item_of steps) more (Some key) rest) λ es. got (entry key t es)) e
     (subst (λ p. KeyCause {E = E} p e c) (sym (last_of_all es)) h))
 
 -- a value
-pub behind_key : {E : Type 0} (es : Entries) (count steps : ℕ) (key : List ℕ) (e : DecodeError E) (b c d : List ℕ) → AreEntryFronts b es c → entry_count es < count → entries_need es ≤ steps → IsFront c (text key) d → follows (last_key es) key ≡ true → ItemCause steps e d → EntriesCause count steps e b
-behind_key {E} es count steps key e b c d f few need k follow h = after_entries es count steps None e b c f tt few need
+pub after_key : {E : Type 0} (es : Entries) (count steps : ℕ) (key : List ℕ) (e : DecodeError E) (b c d : List ℕ) → AreEntryFronts b es c → entry_count es < count → entries_need es ≤ steps → IsFront c (text key) d → follows (last_key es) key ≡ true → ItemCause steps e d → EntriesCause count steps e b
+after_key {E} es count steps key e b c d f few need k follow h = after_entries es count steps None e b c f tt few need
     (λ more. refused_then (key_of (last_after None es) c) (λ key value. after (item_of steps value) λ t rest. after (entries_of (item_of steps) more (Some key) rest) λ es. got (entry key t es)) key d e
     (key_read (last_after None es) c key d k (subst (λ p. follows p key ≡ true) (sym (last_of_all es)) follow))
     (refused_after (item_of steps d) (λ t rest. after (entries_of (item_of steps) more (Some key) rest) λ es. got (entry key t es)) e h))

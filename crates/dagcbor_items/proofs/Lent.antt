@@ -49,14 +49,14 @@ pub at_hand_looked : {old new : Reading} {n : ℕ} → TakesSome n old new → L
 at_hand_looked h = lent_looked h.counted h.takes h.looked h.none_shown
 
 -- a name at hand that was taken
-pub name_taken : (previous : Option (List ℕ)) (name behind : List ℕ) {front : List ℕ} (old new : Reading) (done : Bool) → IsUtf8 name → ((b : List ℕ) → old.left ≡ Some b → (more : List ℕ) × (b ≡ front ++ more)) → length name < 24 → front ≡ text_spelling name ++ behind
+pub name_taken : (previous : Option (List ℕ)) (name following : List ℕ) {front : List ℕ} (old new : Reading) (done : Bool) → IsUtf8 name → ((b : List ℕ) → old.left ≡ Some b → (more : List ℕ) × (b ≡ front ++ more)) → length name < 24 → front ≡ text_spelling name ++ following
     → Follows previous name → MatchBool done (TakesSome (1 + length name) old new) (new ≡ old) → MatchBool done (TakesKnownKey previous name old new) (new ≡ old)
-name_taken previous name behind {front} old new true utf8 begins short is follows h = record {
+name_taken previous name following {front} old new true utf8 begins short is follows h = record {
   follows = follows;
-  takes = front_at_hand (text name) name begins (name_front name behind utf8 short is) refl (let l = name_long name behind short is in omega (arith, l)) h;
+  takes = front_at_hand (text name) name begins (name_front name following utf8 short is) refl (let l = name_long name following short is in omega (arith, l)) h;
   looked = at_hand_looked h;
 }
-name_taken previous name behind {front} old new false utf8 begins short is follows h = h
+name_taken previous name following {front} old new false utf8 begins short is follows h = h
 
 pub known_key_as : {previous : Option (List ℕ)} {key : List ℕ} {old mid new : Reading} → mid ≡ old → TakesKnownKey previous key mid new → TakesKnownKey previous key old new
 known_key_as {previous} {key} {old} {mid} {new} e h = subst (λ r. TakesKnownKey previous key r new) e h

@@ -109,15 +109,15 @@ invalid : {E A : Type 0} (r : Decoded A) (left : ℕ) (e : DecodeError E) → r 
 invalid {E} r left e is told = refused_as r (msg (codes "Invalid CID")) left e is (ap why_of told.1 ∙ ap (λ s. Some (msg s)) (named_short told.0 (codes "Invalid CID") (codes "Invalid CID") told.2 refl (omega arith)))
 
 -- the head was taken, and a CID is after it
-record StandsBehind (n : ℕ) (mid : Reading) : Type 0 where
+record StandsAfter (n : ℕ) (mid : Reading) : Type 0 where
   cid : List ℕ
   rest : List ℕ
   is_cid : IsCid cid
   long : length (0x00 ∷ cid) ≡ n
   left : mid.left ≡ Some ((0x00 ∷ cid) ++ rest)
 
-behind_head : {old mid : Reading} {n : ℕ} → TakesHeadOf old 2 n mid → HasCid old → StandsBehind n mid
-behind_head {old} {mid} {n} h i =
+after_head : {old mid : Reading} {n : ℕ} → TakesHeadOf old 2 n mid → HasCid old → StandsAfter n mid
+after_head {old} {mid} {n} h i =
     let k = h.taken _ i.left in
     let u = head_unique 2 (length (0x00 ∷ i.cid)) 2 n ((0x00 ∷ i.cid) ++ i.rest) k.0 (omega (arith, i.fits)) h.fits (sym (cid_spelled i.cid i.rest) ∙ k.1) in
     record { cid = i.cid; rest = i.rest; is_cid = i.is_cid; long = u.1; left = k.2 ∙ ap Some (sym u.2) }
@@ -129,7 +129,7 @@ IsInvalidCid e = (message : Name) × (e ≡ Msg message) × Names message (codes
 pub link_too_long : {E : Type 0} {old mid : Reading} {n : ℕ} (e : DecodeError E) → IsInvalidCid e → TakesHeadOf old 2 n mid → 87 < n → RefusesPlainly (HasCid old) CidCause old e mid
 link_too_long {E} {old} {mid} {n} e is h more = subst (λ x. RefusesPlainly {E = E} (HasCid old) CidCause old x mid) (sym is.1) (
   h.same.faults,
-  λ i. let k = behind_head h i in omega (arith, cid_length k.cid k.is_cid, k.long, more),
+  λ i. let k = after_head h i in omega (arith, cid_length k.cid k.is_cid, k.long, more),
   λ b l. let k = h.taken b l in invalid (cid_of b) (length k.0) (Msg is.0) (cid_opened b k.0 n h.fits k.1 ∙ rw (lt-ltb 87 n more) refl) (is.0, refl, is.2),
 )
 
@@ -146,13 +146,13 @@ cut_stands {E} e b c n fits most is named h =
 
 pub cid_payload_refused : {E : Type 0} {old mid : Reading} {n : ℕ} (new : Reading) (e : DecodeError E) → TakesHeadOf old 2 n mid → n ≤ 87 → IsEndNamed (codes "cid") e → RefusesPlainly (HasPayload n mid) (PayloadCause n) mid e new → RefusesPlainly (HasCid old) CidCause old e new
 cid_payload_refused {E} {old} {mid} {n} new e h most named r = passed_on (PayloadCause n) CidCause old mid new e h.same
-    (λ i. let k = behind_head h i in record { payload = 0x00 ∷ k.cid; rest = k.rest; long = k.long; left = k.left }) (λ x. x) (λ x. x)
+    (λ i. let k = after_head h i in record { payload = 0x00 ∷ k.cid; rest = k.rest; long = k.long; left = k.left }) (λ x. x) (λ x. x)
     (λ b l. let k = h.taken b l in (k.0, k.2, cut_stands e b k.0 n h.fits most k.1 named)) r
 
 pub no_cid : {E : Type 0} {old mid new : Reading} {n : ℕ} (e : DecodeError E) (s : List ℕ) → IsInvalidCid e → TakesHeadOf old 2 n mid → length s ≡ n → Takes mid s new → IsZeroAndCid s None → RefusesPlainly (HasCid old) CidCause old e new
 no_cid {E} {old} {mid} {new} {n} e s is h long p other = subst (λ x. RefusesPlainly {E = E} (HasCid old) CidCause old x new) (sym is.1) (
   p.same.faults ∙ h.same.faults,
-  λ i. let k = behind_head h i in
+  λ i. let k = after_head h i in
       let q = p.taken _ k.left in
       let same = split_at_length (0x00 ∷ k.cid) s k.rest q.0 (k.long ∙ sym long) q.1 in
       other k.cid (sym same.0) k.is_cid,
@@ -215,8 +215,8 @@ link_stands h =
     is_accepted _ a = absurd (cc a)
 
 -- what follows the first byte of a link
-behind_first : {old mid : Reading} → Takes old (0xd8 ∷ []) mid → (i : HasLink old) → mid.left ≡ Some (0x2a ∷ (bytes_spelling (0x00 ∷ i.cid) ++ i.rest))
-behind_first h i =
+after_first : {old mid : Reading} → Takes old (0xd8 ∷ []) mid → (i : HasLink old) → mid.left ≡ Some (0x2a ∷ (bytes_spelling (0x00 ∷ i.cid) ++ i.rest))
+after_first h i =
     let k = h.taken i.bytes i.left in
     let is : 0xd8 ∷ 0x2a ∷ (bytes_spelling (0x00 ∷ i.cid) ++ i.rest) ≡ 0xd8 ∷ k.0 = sym i.front.is ∙ k.1 in
     let same : 0x2a ∷ (bytes_spelling (0x00 ∷ i.cid) ++ i.rest) ≡ k.0 = cc is in
@@ -225,7 +225,7 @@ behind_first h i =
 link_cid_refused : {E : Type 0} {old mid tagged : Reading} (new : Reading) (e : DecodeError E) → Takes old (0xd8 ∷ []) mid → Takes mid (0x2a ∷ []) tagged → RefusesPlainly (HasCid tagged) CidCause tagged e new → RefusesPlainly (HasFront (leaf view_link) old) LinkCause old e new
 link_cid_refused {E} {old} {mid} {tagged} new e h p r = passed_on CidCause LinkCause old tagged new e (stays_both h.same p.same)
     (λ f. let i = link_stands f in
-    let q = p.taken _ (behind_first h i) in
+    let q = p.taken _ (after_first h i) in
     let is : 0x2a ∷ (bytes_spelling (0x00 ∷ i.cid) ++ i.rest) ≡ 0x2a ∷ q.0 = q.1 in
     let same : bytes_spelling (0x00 ∷ i.cid) ++ i.rest ≡ q.0 = cc is in
     record { cid = i.cid; rest = i.rest; is_cid = i.front.well_formed; fits = i.front.spellable; left = q.2 ∙ ap Some (sym same) }) (λ x. x) (λ x. x)
@@ -266,7 +266,7 @@ first_refused old new e r = passed_on (WantedCause (codes "tag head") (codes "CB
 
 pub second_refused : {E : Type 0} {old mid : Reading} (new : Reading) (e : DecodeError E) → Takes old (0xd8 ∷ []) mid → RefusesPlainly (HasWanted 0x2a mid) (WantedCause (codes "tag") (codes "CBOR tag") 0x2a) mid e new → RefusesPlainly (HasFront (leaf view_link) old) LinkCause old e new
 second_refused {E} {old} {mid} new e h r = passed_on (WantedCause (codes "tag") (codes "CBOR tag") 0x2a) LinkCause old mid new e h.same
-    (λ f. let i = link_stands f in record { rest = bytes_spelling (0x00 ∷ i.cid) ++ i.rest; left = behind_first h i }) (λ x. x) (λ x. x)
+    (λ f. let i = link_stands f in record { rest = bytes_spelling (0x00 ∷ i.cid) ++ i.rest; left = after_first h i }) (λ x. x) (λ x. x)
     (λ b l. let k = h.taken b l in (k.0, k.2, λ s. subst (LinkCause {E = E} e) (sym k.1) (tag_byte (codes "tag") (codes "CBOR tag") 0x2a tag_of e (omega arith) (omega arith) refl (λ found more n. rw n refl) k.0 s))) r
 
 -- ---- a link as an item of unknown kind

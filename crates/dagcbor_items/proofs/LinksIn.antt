@@ -7,21 +7,21 @@ use Rattle.ipld_tree.proofs.Fronts.{item_opened, entry_opened}
 use Rattle.dagcbor_items.specs.Walks.{AreLinksIn}
 
 -- bytes before those that contain them change nothing
-pub links_behind : (x b c : List ℕ) (ls : List (List ℕ)) → b ≡ x ++ c → AreLinksIn c ls → AreLinksIn b ls
-links_behind x b c [] e h = tt
-links_behind x b c (l ∷ ls) e h = (x ++ h.0, h.1, h.2, e ∙ ap (λ y. x ++ y) h.3 ∙ sym (append_assoc x h.0 h.1), h.4, h.5)
+pub links_after : (x b c : List ℕ) (ls : List (List ℕ)) → b ≡ x ++ c → AreLinksIn c ls → AreLinksIn b ls
+links_after x b c [] e h = tt
+links_after x b c (l ∷ ls) e h = (x ++ h.0, h.1, h.2, e ∙ ap (λ y. x ++ y) h.3 ∙ sym (append_assoc x h.0 h.1), h.4, h.5)
 
 -- the links of what is at the front, and then those of the rest
 mutual
   pub item_links_in : (t : Tree) (b rest : List ℕ) (ls : List (List ℕ)) → IsFront b t rest → AreLinksIn rest ls → AreLinksIn b (links_of t ++ ls)
   item_links_in (list ts) b rest ls f h =
-      links_behind (head 4 (item_count ts)) b (items_spelling ts ++ rest) (items_links ts ++ ls) (f.is ∙ append_assoc (head 4 (item_count ts)) (items_spelling ts) rest)
+      links_after (head 4 (item_count ts)) b (items_spelling ts ++ rest) (items_links ts ++ ls) (f.is ∙ append_assoc (head 4 (item_count ts)) (items_spelling ts) rest)
       (items_links_in ts (items_spelling ts ++ rest) rest ls record { well_formed = f.well_formed; spellable = f.spellable.1; is = refl } h)
   item_links_in (mapping es) b rest ls f h =
-      links_behind (head 5 (entry_count es)) b (entries_spelling es ++ rest) (entries_links es ++ ls) (f.is ∙ append_assoc (head 5 (entry_count es)) (entries_spelling es) rest)
+      links_after (head 5 (entry_count es)) b (entries_spelling es ++ rest) (entries_links es ++ ls) (f.is ∙ append_assoc (head 5 (entry_count es)) (entries_spelling es) rest)
       (entries_links_in es (entries_spelling es ++ rest) rest ls record { well_formed = f.well_formed; spellable = f.spellable.1; is = refl } h)
   item_links_in (link cid) b rest ls f h = ([], b, rest, refl, f, h)
-  item_links_in t b rest ls f h = links_behind (spelling t) b rest ls f.is h
+  item_links_in t b rest ls f h = links_after (spelling t) b rest ls f.is h
 
   pub items_links_in : (ts : Items) (b rest : List ℕ) (ls : List (List ℕ)) → AreFronts b ts rest → AreLinksIn rest ls → AreLinksIn b (items_links ts ++ ls)
   items_links_in no_items b rest ls f h = subst (λ x. AreLinksIn x ls) (sym f.is) h
@@ -33,5 +33,5 @@ mutual
   entries_links_in no_entries b rest ls f h = subst (λ x. AreLinksIn x ls) (sym f.is) h
   entries_links_in (entry k t es) b rest ls f h =
       let o = entry_opened b rest k t es f in
-      links_behind (text_spelling k) b o.0 ((links_of t ++ entries_links es) ++ ls) o.1.is
+      links_after (text_spelling k) b o.0 ((links_of t ++ entries_links es) ++ ls) o.1.is
       (subst (AreLinksIn o.0) (sym (append_assoc (links_of t) (entries_links es) ls)) (item_links_in t o.0 _ (entries_links es ++ ls) o.2 (entries_links_in es _ rest ls o.4 h)))

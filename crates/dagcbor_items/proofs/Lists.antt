@@ -19,7 +19,7 @@ use Rattle.dagcbor_items.specs.ReadCauses.{ItemCause, ItemsCause}
 use Rattle.dagcbor_items.specs.Untyped.{any_item, HasItem, TakesItem, StartsWithMajor, StartsDefinite}
 use Rattle.dagcbor_items.specs.Entering.{Enters}
 use Rattle.dagcbor_items.specs.Items.{any_items, HasItems, TakesItems}
-use Rattle.dagcbor_items.proofs.ItemRefusals.{in_list, at_steps, behind_items}
+use Rattle.dagcbor_items.proofs.ItemRefusals.{in_list, at_steps, after_items}
 use Rattle.dagcbor_items.proofs.Fronts.{major_of_front, as_tree, definite}
 use Rattle.dagcbor_items.proofs.Rows.{row_entered, row_first}
 use Rattle.dagcbor_items.proofs.Steps.{spent_step, stepped_refused, stepped_taken}
@@ -124,7 +124,7 @@ next_item ts more s i = row_first (any_item 0) any_items item any_items (λ t us
 pub next_refused : {E lacks lacks' : Type 0} {old now : Reading} {count left : ℕ} (new : Reading) (ts : List Tree) (e : DecodeError E) → 0 < left → ReadSome count left old ts now → (lacks → lacks') → Refuses (record { could = HasItem 0 now; lacks = lacks; borrows = ⊥; stands = ItemCause (now.steps + 0) }) now e new → Refuses (record { could = HasItems count old; lacks = lacks'; borrows = ⊥; stands = ItemsCause count old.steps }) old e new
 next_refused {E} {lacks} {lacks'} {old} {now} {count} {left} new ts e more s w r = passed_on (ItemCause (now.steps + 0)) (ItemsCause count old.steps) old now new e s.takes.same (next_item ts more s) w (λ x. x)
     (λ b l. let k = s.takes.taken b l in
-    (k.0, k.3, λ here. behind_items (items_of ts) count old.steps e b k.0 k.1 (omega (arith, item_count_items_of ts, s.counted, more)) k.2 (at_steps {E = E} e k.0 _ _ (omega (arith, s.takes.same.steps)) here))) r
+    (k.0, k.3, λ here. after_items (items_of ts) count old.steps e b k.0 k.1 (omega (arith, item_count_items_of ts, s.counted, more)) k.2 (at_steps {E = E} e k.0 _ _ (omega (arith, s.takes.same.steps)) here))) r
 
 pub all_items_read : {old now : Reading} {count left : ℕ} (ts : List Tree) → left ≡ 0 → ReadSome count left old ts now → (length ts ≡ count) × TakesItems old ts now
 all_items_read ts none s = (omega (arith, s.counted, none), s.takes)

@@ -4,7 +4,7 @@ use Rattle.dagcbor_core.specs.Head.{head}
 use Rattle.dagcbor_heads.specs.Reading.{Reading, with_steps}
 use Rattle.dagcbor_heads.specs.Fronts.{ShowsByte, Takes, TakesHead}
 use Rattle.dagcbor_core.specs.declared.error.DecodeError.{DecodeError}
-use Rattle.dagcbor_heads.specs.Looking.{Looks, LooksSome, LooksBehind, LooksOnce, LooksAtTaken, LooksAtLeft}
+use Rattle.dagcbor_heads.specs.Looking.{Looks, LooksSome, LooksAfter, LooksOnce, LooksAtTaken, LooksAtLeft}
 use Rattle.dagcbor_core.proofs.Heads.{head_first}
 use Rattle.dagcbor_heads.proofs.Looking.{looks_both, looks_more, looks_then}
 use Rattle.ipld_tree.specs.Tree.{Tree}
@@ -23,13 +23,13 @@ taken_more {times} {before} {old} {new} less few h = record {
 }
 
 -- what a call looks at after another one
-pub looks_behind : {T E : Type 0} {times before : ℕ} {old mid : Reading} (new : Reading) (r : Result T E) → LooksAtTaken times before old mid → Looks times mid r new → LooksBehind times before old r new
-looks_behind new (Ok v) h k = looks_both h k
-looks_behind new (Err e) h k = looks_then h k
+pub looks_after : {T E : Type 0} {times before : ℕ} {old mid : Reading} (new : Reading) (r : Result T E) → LooksAtTaken times before old mid → Looks times mid r new → LooksAfter times before old r new
+looks_after new (Ok v) h k = looks_both h k
+looks_after new (Err e) h k = looks_then h k
 
-pub looks_behind_some : {T E : Type 0} {times before : ℕ} {old mid : Reading} (new : Reading) (r : Result T E) → LooksAtTaken times before old mid → LooksSome times mid r new → LooksBehind times before old r new
-looks_behind_some new (Ok v) h k = looks_more h k
-looks_behind_some new (Err e) h k = looks_then h k
+pub looks_after_some : {T E : Type 0} {times before : ℕ} {old mid : Reading} (new : Reading) (r : Result T E) → LooksAtTaken times before old mid → LooksSome times mid r new → LooksAfter times before old r new
+looks_after_some new (Ok v) h k = looks_more h k
+looks_after_some new (Err e) h k = looks_then h k
 
 -- ---- if a byte is at the front, one more look was free
 
@@ -79,9 +79,9 @@ peeked_taken {times} {byte} {old} {mid} {new} o s h = record {
 pub peeked_left : {times byte : ℕ} {old mid new : Reading} → LooksOnce old mid → ShowsByte old byte mid → LooksAtLeft times 1 mid new → LooksAtLeft times 0 old new
 peeked_left {times} {byte} {old} {mid} {new} o s h = record { grows = omega (arith, o.grows, h.grows); most = λ b l. omega (arith, o.one, h.most b (s.kept b l)) }
 
-pub looks_behind_peek : {T E : Type 0} {byte : ℕ} {old mid : Reading} (times : ℕ) (new : Reading) (r : Result T E) → LooksOnce old mid → ShowsByte old byte mid → LooksBehind times 1 mid r new → Looks times old r new
-looks_behind_peek times new (Ok v) o s h = peeked_taken o s h
-looks_behind_peek times new (Err e) o s h = peeked_left o s h
+pub looks_after_peek : {T E : Type 0} {byte : ℕ} {old mid : Reading} (times : ℕ) (new : Reading) (r : Result T E) → LooksOnce old mid → ShowsByte old byte mid → LooksAfter times 1 mid r new → Looks times old r new
+looks_after_peek times new (Ok v) o s h = peeked_taken o s h
+looks_after_peek times new (Err e) o s h = peeked_left o s h
 
 -- a value after a byte that was peeked at
 pub peeked_value : {T V E : Type 0} (times : ℕ) (meaning : T → V) (view : Tree → Option V) (lacks : Reading → Type 0) (stands : DecodeError E → List ℕ → Type 0) {first : ℕ} {old mid : Reading} (new : Reading) (r : Result T (DecodeError E)) → LooksOnce old mid → ShowsByte old first mid

@@ -20,7 +20,7 @@ use Rattle.dagcbor_items.specs.ReadCauses.{KeyCause, ItemCause, EntriesCause}
 use Rattle.dagcbor_items.specs.Untyped.{HasItem, TakesItem, StartsWithMajor, StartsDefinite}
 use Rattle.dagcbor_items.specs.Entering.{Enters}
 use Rattle.dagcbor_items.specs.Entries.{HasKey, AllFollow, HasEntryRow, any_entries, HasEntries, TakesEntries}
-use Rattle.dagcbor_items.proofs.ItemRefusals.{in_map, at_steps, behind_entries, behind_key}
+use Rattle.dagcbor_items.proofs.ItemRefusals.{in_map, at_steps, after_entries, after_key}
 use Rattle.dagcbor_items.proofs.Fronts.{major_of_front, as_tree, definite}
 use Rattle.dagcbor_items.proofs.Rows.{entries_entered, row_key, row_value}
 use Rattle.dagcbor_items.proofs.Steps.{spent_step, stepped_refused, stepped_taken}
@@ -66,7 +66,7 @@ next_entries {old} {now} {count} {left} {es} {previous} s i =
 pub next_key_refused : {E lacks' : Type 0} {old now : Reading} {count left : ℕ} {es : Entries} {previous : Option (List ℕ)} (new : Reading) (e : DecodeError E) → 0 < left → ReadEntries count left old es previous now → (now.lends ≡ false → lacks')
     → RefusesOrLacksMemoryUnlent (HasKey previous now) (KeyCause previous) now e new → Refuses (record { could = HasEntries count old; lacks = lacks'; borrows = ⊥; stands = EntriesCause count old.steps }) old e new
 next_key_refused {E} {lacks'} {old} {now} {count} {left} {es} {previous} new e more s w r = passed_on (KeyCause previous) (EntriesCause count old.steps) old now new e s.takes.same (λ i. row_key more (next_entries s i)) w (λ x. x)
-    (λ b l. let k = s.takes.taken b l in (k.0, k.3, λ here. behind_entries es count old.steps e b k.0 k.1 (omega (arith, s.counted, more)) k.2 (subst (λ p. KeyCause {E = E} p e k.0) (sym s.last) here))) r
+    (λ b l. let k = s.takes.taken b l in (k.0, k.3, λ here. after_entries es count old.steps e b k.0 k.1 (omega (arith, s.counted, more)) k.2 (subst (λ p. KeyCause {E = E} p e k.0) (sym s.last) here))) r
 
 -- a key was read as well
 next_value : {old now mid : Reading} {count left : ℕ} {es : Entries} {previous : Option (List ℕ)} (key : List ℕ) → 0 < left → ReadEntries count left old es previous now → TakesItem 1 now (text key) mid → HasEntries count old → HasItem 0 mid
@@ -82,7 +82,7 @@ next_value_refused {E} {lacks} {lacks'} {old} {now} {mid} {count} {left} {es} {p
     (λ b l. let k = s.takes.taken b l in let q = a.taken k.0 k.3 in (
       q.0,
       q.3,
-      λ here. behind_key es count old.steps key e b k.0 q.0 k.1 (omega (arith, s.counted, more)) k.2 q.1 (follows_tested (last_key es) key (subst (λ p. Follows p key) (sym s.last) f)) (at_steps {E = E} e q.0 _ _ (omega (arith, s.takes.same.steps, a.same.steps)) here),
+      λ here. after_key es count old.steps key e b k.0 q.0 k.1 (omega (arith, s.counted, more)) k.2 q.1 (follows_tested (last_key es) key (subst (λ p. Follows p key) (sym s.last) f)) (at_steps {E = E} e q.0 _ _ (omega (arith, s.takes.same.steps, a.same.steps)) here),
     )) r
 
 pub on_ok : {X Y : Type 0} (r : Result X Y) (P : Type 0) → false ≡ is_err r → OnOk r P → P
@@ -146,5 +146,5 @@ map_taken {old} {mid} {now} {new} {n} es h counted a back = stepped_taken 1 (spe
 pub map_as_tree : {old mid now new : Reading} {n : ℕ} (m : BTreeMap (String Global) Ipld) → Enters 5 n old mid → (entry_count (ordered_entries (pairs_of m.entries)) ≡ n) × TakesEntries mid (ordered_entries (pairs_of m.entries)) now → new ≡ with_steps (now.steps + 1) now → TakesItem 1 old (tree_of (Map' m)) new
 map_as_tree m h r back = as_tree (mapping (ordered_entries (pairs_of m.entries))) _ (tree_of_Map m) (map_taken (ordered_entries (pairs_of m.entries)) h r.0 r.1 back)
 
-pub behind_last : {count left : ℕ} {old now : Reading} {es : Entries} {previous : Option (List ℕ)} (k : List ℕ) → ReadEntries count left old es previous now → Follows previous k → Follows (last_key es) k
-behind_last k s f = subst (λ x. Follows x k) (sym s.last) f
+pub after_last : {count left : ℕ} {old now : Reading} {es : Entries} {previous : Option (List ℕ)} (k : List ℕ) → ReadEntries count left old es previous now → Follows previous k → Follows (last_key es) k
+after_last k s f = subst (λ x. Follows x k) (sym s.last) f

@@ -25,23 +25,23 @@ bytes_agree {s} {t} h = (bytes_eq-Decides s t).0 (by (bytes_eq s t) h)
     by false e = absurd (cc e)
 
 -- the head and what follows it
-pub name_opened : {front behind : List ℕ} {first : ℕ} (name rest : List ℕ) → length name < 24 → front ≡ first ∷ behind → front ≡ text_spelling name ++ rest → (first ≡ 96 + length name) × (behind ≡ name ++ rest)
-name_opened {front} {behind} {first} name rest h e is =
-    let both : first ∷ behind ≡ (32 * 3 + length name) ∷ (name ++ rest) = sym e ∙ is ∙ short_text name rest h in
+pub name_opened : {front following : List ℕ} {first : ℕ} (name rest : List ℕ) → length name < 24 → front ≡ first ∷ following → front ≡ text_spelling name ++ rest → (first ≡ 96 + length name) × (following ≡ name ++ rest)
+name_opened {front} {following} {first} name rest h e is =
+    let both : first ∷ following ≡ (32 * 3 + length name) ∷ (name ++ rest) = sym e ∙ is ∙ short_text name rest h in
     let same : first ≡ 32 * 3 + length name = cc both in
     (omega (arith, same), cc both)
 
 -- the first n bytes are the name, if it has n bytes
-pub name_cut : {behind s more : List ℕ} (n : ℕ) (name rest : List ℕ) → n ≡ length name → behind ≡ name ++ rest → IsSplitAt behind n s more → s ≡ name
-name_cut {behind} {s} {more} n name rest same is cut =
-    let whole : s ++ more ≡ name ++ rest = ap (λ x. x ++ more) cut.1 ∙ ap (λ x. take n behind ++ x) cut.2 ∙ take-append-drop n behind ∙ is in
+pub name_cut : {following s more : List ℕ} (n : ℕ) (name rest : List ℕ) → n ≡ length name → following ≡ name ++ rest → IsSplitAt following n s more → s ≡ name
+name_cut {following} {s} {more} n name rest same is cut =
+    let whole : s ++ more ≡ name ++ rest = ap (λ x. x ++ more) cut.1 ∙ ap (λ x. take n following ++ x) cut.2 ∙ take-append-drop n following ∙ is in
     (split_at_length s name more rest (cut.3 ∙ same) whole).0
 
-pub name_found : {front behind s more : List ℕ} {first : ℕ} (n : ℕ) (name : List ℕ) → length name < 24 → front ≡ first ∷ behind → first ≡ 96 + length name → IsSplitAt behind n s more → s ≡ name → front ≡ text_spelling name ++ more
-name_found {front} {behind} {s} {more} {first} n name h e same cut is =
-    let behind_is : name ++ more ≡ behind = ap (λ x. x ++ more) (sym is ∙ cut.1) ∙ ap (λ x. take n behind ++ x) cut.2 ∙ take-append-drop n behind in
+pub name_found : {front following s more : List ℕ} {first : ℕ} (n : ℕ) (name : List ℕ) → length name < 24 → front ≡ first ∷ following → first ≡ 96 + length name → IsSplitAt following n s more → s ≡ name → front ≡ text_spelling name ++ more
+name_found {front} {following} {s} {more} {first} n name h e same cut is =
+    let after_is : name ++ more ≡ following = ap (λ x. x ++ more) (sym is ∙ cut.1) ∙ ap (λ x. take n following ++ x) cut.2 ∙ take-append-drop n following in
     let first_is : first ≡ 32 * 3 + length name = omega (arith, same) in
-    e ∙ ap (λ x. x ∷ behind) first_is ∙ ap (λ x. (32 * 3 + length name) ∷ x) (sym behind_is) ∙ sym (short_text name more h)
+    e ∙ ap (λ x. x ∷ following) first_is ∙ ap (λ x. (32 * 3 + length name) ∷ x) (sym after_is) ∙ sym (short_text name more h)
 
 pub name_long : {front : List ℕ} (name rest : List ℕ) → length name < 24 → front ≡ text_spelling name ++ rest → length front ≡ 1 + length name + length rest
 name_long {front} name rest h is = omega (arith, ap length (is ∙ short_text name rest h), length-append name rest)

@@ -10,7 +10,7 @@ use Rattle.ipld_tree.specs.Spelling.{IsSpellable, item_count, entry_count, items
 use Rattle.ipld_tree.proofs.Unique.{major, argument, payload, argument_fits}
 use Rattle.ipld_tree.proofs.Fronts.{front_head, major_le, item_opened, item_closed, entry_opened}
 use Rattle.dagcbor_decode.specs.Rows.{is_string}
-use Rattle.dagcbor_items.specs.Skips.{part_count, PassesHead, PassesHeads, EndByHeads, FindsBehindItems}
+use Rattle.dagcbor_items.specs.Skips.{part_count, PassesHead, PassesHeads, EndByHeads, FindsAfterItems}
 use Rattle.dagcbor_decode.proofs.Fronts.{head_opened}
 use Rattle.dagcbor_core.proofs.Heads.{head_first}
 use Rattle.dagcbor_decode.proofs.Rows.{token_shorter}
@@ -106,7 +106,7 @@ IsPassed m n c parts rest = (parts ≡ part_count m n) × (IsTrue (is_string m) 
 
 passed_as : (b c rest : List ℕ) (m n parts : ℕ) → SplitsHead b m n c → PassesHead b parts rest → IsPassed m n c parts rest
 passed_as b c rest m n parts h p =
-    let u = head_unique p.major p.argument m n p.behind c p.split.1 h.1 (sym p.split.2 ∙ h.2) in
+    let u = head_unique p.major p.argument m n p.following c p.split.1 h.1 (sym p.split.2 ∙ h.2) in
     subst (λ x. IsPassed x n c parts rest) u.0 (subst (λ x. IsPassed p.major x c parts rest) u.1 (subst (λ x. IsPassed p.major p.argument x parts rest) u.2 (p.counted, p.there, p.left)))
 
 ends_opened : (b c r : List ℕ) (m n more : ℕ) → 0 < more → SplitsHead b m n c → EndByHeads b more r → (IsTrue (is_string m) → n ≤ length c) × EndByHeads (if is_string m then drop n c else c) (part_count m n + (more - 1)) r
@@ -116,10 +116,10 @@ ends_opened b c r m n more some h (suc k, e) =
     (p.1, (k, subst (λ x. PassesHeads k x (part_count m n + (more - 1)) r) p.2 (subst (λ x. PassesHeads k e.2 (x + (more - 1)) r) p.0 e.4)))
 
 ends_closed : (b c r : List ℕ) (m n more : ℕ) → 0 < more → SplitsHead b m n c → (IsTrue (is_string m) → n ≤ length c) → EndByHeads (if is_string m then drop n c else c) (part_count m n + (more - 1)) r → EndByHeads b more r
-ends_closed b c r m n more some h there e = (suc e.0, (some, part_count m n, (if is_string m then drop n c else c), record { major = m; argument = n; behind = c; split = h; counted = refl; there = there; left = refl }, e.1))
+ends_closed b c r m n more some h there e = (suc e.0, (some, part_count m n, (if is_string m then drop n c else c), record { major = m; argument = n; following = c; split = h; counted = refl; there = there; left = refl }, e.1))
 
 passed_shorter : (b rest : List ℕ) (parts : ℕ) → PassesHead b parts rest → length rest < length b
-passed_shorter b rest parts p = token_shorter b p.behind rest p.major p.argument p.split p.left
+passed_shorter b rest parts p = token_shorter b p.following rest p.major p.argument p.split p.left
 
 -- they end at one place
 passed_once : (k j n : ℕ) (b r s : List ℕ) → PassesHeads k b n r → PassesHeads j b n s → r ≡ s
@@ -127,7 +127,7 @@ passed_once zero zero n b r s x y = sym x.1 ∙ y.1
 passed_once zero (suc j) n b r s x y = absurd (omega (arith, x.0, y.0))
 passed_once (suc k) zero n b r s x y = absurd (omega (arith, x.0, y.0))
 passed_once (suc k) (suc j) n b r s x y =
-    let p = passed_as b x.3.behind y.2 x.3.major x.3.argument y.1 x.3.split y.3 in
+    let p = passed_as b x.3.following y.2 x.3.major x.3.argument y.1 x.3.split y.3 in
     passed_once k j (x.1 + (n - 1)) x.2 r s x.4 (subst (λ m. PassesHeads j x.2 (m + (n - 1)) s) (p.0 ∙ sym x.3.counted) (subst (λ c. PassesHeads j c (y.1 + (n - 1)) s) (p.2 ∙ sym x.3.left) y.4))
 
 -- each takes a byte at least
@@ -141,8 +141,8 @@ passed_ends b rest parts p = let e = cut (is_string p.major) in (
   p.split.2 ∙ ap (λ x. head p.major p.argument ++ x) (e.1 ∙ ap (λ x. e.0 ++ x) (sym p.left)) ∙ sym (append_assoc (head p.major p.argument) e.0 rest),
 )
   where
-    cut : (x : Bool) → (front : List ℕ) × (p.behind ≡ front ++ (if x then drop p.argument p.behind else p.behind))
-    cut true = (take p.argument p.behind, sym (take-append-drop p.argument p.behind))
+    cut : (x : Bool) → (front : List ℕ) × (p.following ≡ front ++ (if x then drop p.argument p.following else p.following))
+    cut true = (take p.argument p.following, sym (take-append-drop p.argument p.following))
     cut false = ([], refl)
 
 -- they end in these bytes
@@ -168,12 +168,12 @@ row_ends (suc most) b r n few (item t ts, e, f) =
     let next = if is_string (major t) then drop (argument t) c else c in
     ends_closed b c r (major t) (argument t) n (omega (arith, e)) h on.0 (row_ends most next r (part_count (major t) (argument t) + (n - 1)) (omega (arith, few, token_shorter b c next (major t) (argument t) h refl)) on.1)
 
-pub items_found : {A : Type 0} (bytes_of : A → List ℕ) (b rest : List ℕ) (n : ℕ) (ts : Items) (r : Option A) → FindsBehindItems bytes_of b n r → AreFronts b ts rest → item_count ts ≡ n → MatchOption r ⊥ (λ a. bytes_of a ≡ rest)
+pub items_found : {A : Type 0} (bytes_of : A → List ℕ) (b rest : List ℕ) (n : ℕ) (ts : Items) (r : Option A) → FindsAfterItems bytes_of b n r → AreFronts b ts rest → item_count ts ≡ n → MatchOption r ⊥ (λ a. bytes_of a ≡ rest)
 items_found bytes_of b rest n ts None none f e = none rest (row_ends (length b) b rest n (omega arith) (ts, e, f))
 items_found bytes_of b rest n ts (Some a) found f e = let there = row_ends (length b) b rest n (omega arith) (ts, e, f) in passed_once found.0 there.0 n b (bytes_of a) rest found.1 there.1
 
 -- the item at the front
-pub one_found : {A : Type 0} (bytes_of : A → List ℕ) (b rest : List ℕ) (t : Tree) (r : Option A) → FindsBehindItems bytes_of b 1 r → IsFront b t rest → MatchOption r ⊥ (λ a. bytes_of a ≡ rest)
+pub one_found : {A : Type 0} (bytes_of : A → List ℕ) (b rest : List ℕ) (t : Tree) (r : Option A) → FindsAfterItems bytes_of b 1 r → IsFront b t rest → MatchOption r ⊥ (λ a. bytes_of a ≡ rest)
 one_found bytes_of b rest t r found f = items_found bytes_of b rest 1 (item t no_items) r found (item_closed b rest rest t no_items f (record { well_formed = tt; spellable = tt; is = refl })) refl
 
 -- ---- the loop
@@ -186,17 +186,17 @@ pub record Skipping (b : List ℕ) (count more : ℕ) (now : List ℕ) : Type 0 
 pub none_skipped : (b : List ℕ) (count : ℕ) → Skipping b count count b
 none_skipped b count = record { shorter = omega arith; whole = λ r e. e; left = λ r e. e }
 
-pub no_head_found : {A : Type 0} (bytes_of : A → List ℕ) (b now : List ℕ) (count more : ℕ) → Skipping b count more now → 0 < more → ¬ BeginsWithHead now → FindsBehindItems {A = A} bytes_of b count None
+pub no_head_found : {A : Type 0} (bytes_of : A → List ℕ) (b now : List ℕ) (count more : ℕ) → Skipping b count more now → 0 < more → ¬ BeginsWithHead now → FindsAfterItems {A = A} bytes_of b count None
 no_head_found bytes_of b now count more s some none = λ r e. by r (s.left r e)
   where
     by : (r : List ℕ) → EndByHeads now more r → ⊥
     by r (zero, x) = omega (arith, some, x.0)
-    by r (suc k, x) = none (x.3.major, x.3.argument, x.3.behind, x.3.split)
+    by r (suc k, x) = none (x.3.major, x.3.argument, x.3.following, x.3.split)
 
-pub no_string_found : {A : Type 0} (bytes_of : A → List ℕ) (b now c : List ℕ) (count more m n : ℕ) → Skipping b count more now → 0 < more → SplitsHead now m n c → IsTrue (is_string m) → length c < n → FindsBehindItems {A = A} bytes_of b count None
+pub no_string_found : {A : Type 0} (bytes_of : A → List ℕ) (b now c : List ℕ) (count more m n : ℕ) → Skipping b count more now → 0 < more → SplitsHead now m n c → IsTrue (is_string m) → length c < n → FindsAfterItems {A = A} bytes_of b count None
 no_string_found bytes_of b now c count more m n s some h is few = λ r e. omega (arith, few, (ends_opened now c r m n more some h (s.left r e)).0 is)
 
-pub too_many_found : {A : Type 0} (bytes_of : A → List ℕ) (b now c : List ℕ) (count more m n : ℕ) → Skipping b count more now → 0 < more → SplitsHead now m n c → length b < 2 ^ 64 → 2 ^ 64 ≤ part_count m n + (more - 1) → FindsBehindItems {A = A} bytes_of b count None
+pub too_many_found : {A : Type 0} (bytes_of : A → List ℕ) (b now c : List ℕ) (count more m n : ℕ) → Skipping b count more now → 0 < more → SplitsHead now m n c → length b < 2 ^ 64 → 2 ^ 64 ≤ part_count m n + (more - 1) → FindsAfterItems {A = A} bytes_of b count None
 too_many_found bytes_of b now c count more m n s some h short many = λ r e.
     let next = if is_string m then drop n c else c in
     let on = (ends_opened now c r m n more some h (s.left r e)).1 in
@@ -209,5 +209,5 @@ one_skipped b now c next count more m n left s some h there is e = subst (λ x. 
   left = λ r x. (ends_opened now c r m n more some h (s.left r x)).1;
 }))
 
-pub all_skipped : {A : Type 0} (bytes_of : A → List ℕ) (a : A) (b : List ℕ) (count more : ℕ) → more ≡ 0 → Skipping b count more (bytes_of a) → FindsBehindItems bytes_of b count (Some a)
+pub all_skipped : {A : Type 0} (bytes_of : A → List ℕ) (a : A) (b : List ℕ) (count more : ℕ) → more ≡ 0 → Skipping b count more (bytes_of a) → FindsAfterItems bytes_of b count (Some a)
 all_skipped bytes_of a b count more none s = s.whole (bytes_of a) (zero, (none, refl))

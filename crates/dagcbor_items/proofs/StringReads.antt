@@ -33,8 +33,8 @@ pub of_kind : {kind m n : ℕ} {old mid : Reading} → TakesMajor kind kind old 
 of_kind {kind} {m} {n} {old} {mid} h = let same : m ≡ kind = omega (arith, h.lowest, h.highest) in subst (λ x. Takes old (head x n) mid) same h.takes
 
 -- the string after the head that was taken
-behind_kind : {kind n : ℕ} {old mid : Reading} → n < 2 ^ 64 → Takes old (head kind n) mid → (h : HasString kind old) → (length h.payload ≡ n) × (mid.left ≡ Some (h.payload ++ h.rest))
-behind_kind {kind} {n} fits t h =
+after_kind : {kind n : ℕ} {old mid : Reading} → n < 2 ^ 64 → Takes old (head kind n) mid → (h : HasString kind old) → (length h.payload ≡ n) × (mid.left ≡ Some (h.payload ++ h.rest))
+after_kind {kind} {n} fits t h =
     let k = t.taken _ h.left in
     let u = head_unique kind (length h.payload) kind n (h.payload ++ h.rest) k.0 h.fits fits k.1 in
     (u.1, k.2 ∙ ap Some (sym u.2))
@@ -42,7 +42,7 @@ behind_kind {kind} {n} fits t h =
 payload_refused : {E : Type 0} (lacks : Type 0) (name : List ℕ) (kind : ℕ) {n : ℕ} {old mid : Reading} (new : Reading) (e : DecodeError E) → n < 2 ^ 64 → Takes old (head kind n) mid → IsPayloadNamed name e
     → (lacks' : Type 0) → (lacks → lacks') → Refuses (record { could = HasPayload n mid; lacks = lacks; borrows = ⊥; stands = PayloadCause n }) mid e new → Refuses (record { could = HasString kind old; lacks = lacks'; borrows = ⊥; stands = StringCause name kind }) old e new
 payload_refused lacks name kind {n} {old} {mid} new e fits t named lacks' want r = passed_on (PayloadCause n) (StringCause name kind) old mid new e t.same
-    (λ h. let k = behind_kind fits t h in record { payload = h.payload; rest = h.rest; long = k.0; left = k.1 }) want (λ x. x)
+    (λ h. let k = after_kind fits t h in record { payload = h.payload; rest = h.rest; long = k.0; left = k.1 }) want (λ x. x)
     (λ b l. let k = t.taken b l in (k.0, k.2, string_cut name kind n e b k.0 fits k.1 named)) r
 
 string_taken : {kind n : ℕ} {old mid new : Reading} (s : List ℕ) → n < 2 ^ 64 → Takes old (head kind n) mid → length s ≡ n → Takes mid s new → TakesString kind old s new

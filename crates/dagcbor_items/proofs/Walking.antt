@@ -14,7 +14,7 @@ use Rattle.dagcbor_items.specs.Untyped.{HasItem, TakesItem, SkipsEnteredItem}
 use Rattle.dagcbor_items.specs.Items.{TakesItems}
 use Rattle.dagcbor_items.specs.Entries.{TakesEntries}
 use Rattle.dagcbor_items.specs.Walks.{Sink, Finds, WalkLacks, AreLinksIn, HandsLinks, RefusesWalk, WalksEnteredItem}
-use Rattle.dagcbor_items.proofs.LinksIn.{links_behind, items_links_in, entries_links_in}
+use Rattle.dagcbor_items.proofs.LinksIn.{links_after, items_links_in, entries_links_in}
 use Rattle.dagcbor_items.proofs.Fronts.{head_of, major_of_front, major_at}
 use Rattle.dagcbor_items.specs.Shapes.{number_of}
 use Rattle.dagcbor_items.proofs.Integers.{number_front}
@@ -53,8 +53,8 @@ no_links _ a b c = refl
 
 -- if a call may run out of memory after what was taken, it might have before
 pub lacks_before : {takes_memory : Bool} {old mid : Reading} → Stays old mid → LeavesRest old.left mid.left → WalkLacks takes_memory mid → WalkLacks takes_memory old
-lacks_before h behind (inl l) = inl (sym h.lends ∙ l)
-lacks_before h behind (inr m) = inr (m.0, λ b l. let k = behind b l in let link = m.1 k.1 k.3 in (link.0, links_behind k.0 b k.1 (link.0 ∷ []) k.2 link.1))
+lacks_before h following (inl l) = inl (sym h.lends ∙ l)
+lacks_before h following (inr m) = inr (m.0, λ b l. let k = following b l in let link = m.1 k.1 k.3 in (link.0, links_after k.0 b k.1 (link.0 ∷ []) k.2 link.1))
 
 pub step_refused : {E : Type 0} (takes_memory : Bool) {old stepped : Reading} (new : Reading) (spent : ℕ) (e : DecodeError E) → SpentStep old stepped → Refuses (record { could = HasItem (spent + 1) stepped; lacks = WalkLacks takes_memory stepped; borrows = ⊥; stands = ItemCause (stepped.steps + (spent + 1)) }) stepped e new
     → Refuses (record { could = HasItem spent old; lacks = WalkLacks takes_memory old; borrows = ⊥; stands = ItemCause (old.steps + spent) }) old e new
@@ -100,18 +100,18 @@ module _ {S : Type 0} (sink : Sink S) where
   pub handed_more : {left rest : Option (List ℕ)} (links : List (List ℕ)) (before mid after : S) → Finds sink.holds before links mid
       → ((b : List ℕ) → left ≡ Some b → (c : List ℕ) × (rest ≡ Some c) × ((ls : List (List ℕ)) → AreLinksIn c ls → AreLinksIn b (links ++ ls)))
       → HandsLinks sink rest mid after → HandsLinks sink left before after
-  handed_more links before mid after f behind h = record {
+  handed_more links before mid after f following h = record {
     found = links ++ h.found;
     finds = found_both before mid after links h.found f h.finds;
-    stand = λ b l. let k = behind b l in k.2 h.found (h.stand k.0 k.1);
+    stand = λ b l. let k = following b l in k.2 h.found (h.stand k.0 k.1);
   }
 
   -- after bytes that were taken
-  pub handed_behind : {left rest : Option (List ℕ)} (before after : S) → LeavesRest left rest → HandsLinks sink rest before after → HandsLinks sink left before after
-  handed_behind before after behind h = handed_more [] before before after (found_none before) (λ b l. let k = behind b l in (k.1, k.3, λ ls. links_behind k.0 b k.1 ls k.2)) h
+  pub handed_after : {left rest : Option (List ℕ)} (before after : S) → LeavesRest left rest → HandsLinks sink rest before after → HandsLinks sink left before after
+  handed_after before after following h = handed_more [] before before after (found_none before) (λ b l. let k = following b l in (k.1, k.3, λ ls. links_after k.0 b k.1 ls k.2)) h
 
   pub handed_inside : {old mid : Reading} {bytes : List ℕ} (before after : S) → Takes old bytes mid → HandsLinks sink mid.left before after → HandsLinks sink old.left before after
-  handed_inside before after t h = handed_behind before after (rest_of_bytes t) h
+  handed_inside before after t h = handed_after before after (rest_of_bytes t) h
 
   -- after whole items, and after whole entries
   pub handed_in_items : {old mid : Reading} (ts : List Tree) (before now after : S) → TakesItems old ts mid → Finds sink.holds before (items_links (items_of ts)) now → HandsLinks sink mid.left now after → HandsLinks sink old.left before after
@@ -122,7 +122,7 @@ module _ {S : Type 0} (sink : Sink S) where
 
   -- after a key
   pub handed_in_value : {old mid : Reading} (key : List ℕ) (before after : S) → TakesItem 1 old (text key) mid → HandsLinks sink mid.left before after → HandsLinks sink old.left before after
-  handed_in_value key before after t h = handed_behind before after (rest_of_key key t) h
+  handed_in_value key before after t h = handed_after before after (rest_of_key key t) h
 
   -- after a step
   pub step_walk_refused : {E : Type 0} {old stepped : Reading} (before after : S) (new : Reading) (spent : ℕ) (e : DecodeError E) → SpentStep old stepped
@@ -155,7 +155,7 @@ module _ {S : Type 0} (sink : Sink S) where
   walked_from {E} {old} {peeked} before after (Err e) new s h = record {
     refuses = passed_on (ItemCause (peeked.steps + 1)) (ItemCause (old.steps + 1)) old peeked new e s.same shown_item (lacks_before s.same rest_shown) (λ x. x)
         (λ b l. (b, s.kept b l, λ x. at_steps {E = E} e b _ _ (omega (arith, s.same.steps)) x)) h.refuses;
-    handed = handed_behind before after rest_shown h.handed;
+    handed = handed_after before after rest_shown h.handed;
   }
     where
       rest_shown : LeavesRest old.left peeked.left

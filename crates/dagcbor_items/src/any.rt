@@ -3,7 +3,7 @@
 ghost use Rattle.std.specs.Prelude.{◌≡◌, ◌≢◌, ◌%◌, IfErr, IfSome, MatchOption};
 ghost use Rattle.dagcbor_heads.specs.Inputs.{input_reading, OverInput};
 ghost use Rattle.dagcbor_heads.specs.Fronts.{StartsWith};
-ghost use Rattle.dagcbor_heads.specs.Looking.{Looks, LooksSome, LooksBehind, LooksAtTaken};
+ghost use Rattle.dagcbor_heads.specs.Looking.{Looks, LooksSome, LooksAfter, LooksAtTaken};
 ghost use Rattle.dagcbor_items.specs.Untyped.{ReadsItem, PutsItem, PutsEnteredItem};
 ghost use Rattle.dagcbor_items.specs.Untyped.{ReadsList, ReadsMap, StartsDefinite, TakesItem};
 ghost use Rattle.ipld_tree.specs.Tree.{integer};
@@ -85,7 +85,7 @@ fn put_of_major<R: Read>(
     requires starts { StartsWith (input_reading R.reading input.old) first }
     requires definite { first % 32 ≢ 31 }
     ensures item { OverInput R.reading (PutsEnteredItem place.new) input.old result input.new }
-    ensures looked { OverInput R.reading (LooksBehind 3 1) input.old result input.new }
+    ensures looked { OverInput R.reading (LooksAfter 3 1) input.old result input.new }
     ensures variant { IfErr result OfItem }
 {
     match first / 32 {
@@ -112,7 +112,7 @@ fn put_of_major<R: Read>(
 fn read_list<R: Read>(alloc: Global, input: &mut Input<'_, R>) -> ReadResult<Vec<Ipld>, R>
     requires { StartsDefinite (input_reading R.reading input.old) 4 }
     ensures item { OverInput R.reading ReadsList input.old result input.new }
-    ensures looked { OverInput R.reading (LooksBehind 3 1) input.old result input.new }
+    ensures looked { OverInput R.reading (LooksAfter 3 1) input.old result input.new }
     ensures variant { IfErr result OfItem }
 {
     let count = enter("array", input)?;
@@ -190,7 +190,7 @@ fn read_map<R: Read>(
 ) -> ReadResult<BTreeMap<String, Ipld>, R>
     requires { StartsDefinite (input_reading R.reading input.old) 5 }
     ensures item { OverInput R.reading ReadsMap input.old result input.new }
-    ensures looked { OverInput R.reading (LooksBehind 3 1) input.old result input.new }
+    ensures looked { OverInput R.reading (LooksAfter 3 1) input.old result input.new }
     ensures variant { IfErr result OfItem }
 {
     let count = enter("map", input)?;

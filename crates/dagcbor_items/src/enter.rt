@@ -1,7 +1,7 @@
 //! Enters a list or a map, as an item of unknown kind.
 
 ghost use Rattle.std.specs.Prelude.{IfErr};
-ghost use Rattle.dagcbor_heads.specs.Looking.{LooksBehind};
+ghost use Rattle.dagcbor_heads.specs.Looking.{LooksAfter};
 ghost use Rattle.dagcbor_items.specs.Entering.{StartsWithParts, ReadsCount};
 ghost use Rattle.dagcbor_items.specs.AnsweredVariants.{OfItem};
 
@@ -12,7 +12,7 @@ use dagcbor_heads::{Read, ReadResult, pull_head_argument, spend_step};
 pub(crate) fn enter<R: Read>(name: &str, reader: &mut R) -> ReadResult<u64, R>
     requires { StartsWithParts name.now (R.reading reader.old) }
     ensures count { ReadsCount (R.reading reader.old) result (R.reading reader.new) }
-    ensures looked { LooksBehind 3 1 (R.reading reader.old) result (R.reading reader.new) }
+    ensures looked { LooksAfter 3 1 (R.reading reader.old) result (R.reading reader.new) }
     ensures variant { IfErr result OfItem }
 {
     spend_step(name, reader)?;

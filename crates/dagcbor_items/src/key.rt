@@ -108,11 +108,11 @@ fn split_name<'b>(front: &'b [u8], name: &str) -> Option<(&'b str, &'b [u8])>
     if wanted.len() > 23 {
         return None;
     }
-    let (first, behind) = front.split_first()?;
+    let (first, following) = front.split_first()?;
     if usize::from(*first) != 0x60 + wanted.len() {
         return None;
     }
-    let (text, rest) = behind.split_at_checked(wanted.len())?;
+    let (text, rest) = following.split_at_checked(wanted.len())?;
     if !is_same(text, wanted) {
         return None;
     }
@@ -140,7 +140,7 @@ pub fn take_name<'de, R: Read>(
         (input_reading R.reading input.new)) }
 {
     let front = input.rest()?;
-    let (key, _behind) = split_name(front, name)?;
+    let (key, _following) = split_name(front, name)?;
     if !follows(previous, name) {
         return None;
     }
@@ -157,7 +157,7 @@ fn take_name_at_hand<R: Read>(reader: &mut R, last: &Option<CowStr<'_>>, name: &
         (R.reading reader.new))
         (R.reading reader.new ≡ R.reading reader.old) }
 {
-    let Some((_key, _behind)) = split_name(reader.at_hand(), name) else {
+    let Some((_key, _following)) = split_name(reader.at_hand(), name) else {
         return false;
     };
     if !follows(last, name) {

@@ -3,7 +3,7 @@
 ghost use Rattle.std.specs.Prelude.{◌≡◌, ◌≢◌, ◌≤◌, ◌/◌, ◌%◌, true, false, IfErr, IfSome, MatchOption};
 ghost use Rattle.dagcbor_heads.specs.Inputs.{input_reading, OverInput};
 ghost use Rattle.dagcbor_heads.specs.Fronts.{StartsWith};
-ghost use Rattle.dagcbor_heads.specs.Looking.{LooksAtTaken, LooksBehind};
+ghost use Rattle.dagcbor_heads.specs.Looking.{LooksAtTaken, LooksAfter};
 ghost use Rattle.ipld_tree.specs.Tree.{integer};
 ghost use Rattle.dagcbor_items.specs.Untyped.{ReadsEnteredItem, ReadsText, ReadsLeaf};
 ghost use Rattle.dagcbor_items.specs.Untyped.{IsSimple, StartsWithMajor, StartsDefinite};
@@ -44,7 +44,7 @@ fn read_integer<R: Read>(name: &str, reader: &mut R, first: u8) -> ReadResult<Ip
     requires major { first / 32 ≤ 1 }
     requires named { name.now ≡ number_name (first / 32) }
     ensures leaf { ReadsLeaf (R.reading reader.old) result (R.reading reader.new) }
-    ensures looked { LooksBehind 3 1 (R.reading reader.old) result (R.reading reader.new) }
+    ensures looked { LooksAfter 3 1 (R.reading reader.old) result (R.reading reader.new) }
     ensures variant { IfErr result OfItem }
 {
     let (_, argument, _) = pull_head(name, reader)?;
@@ -55,7 +55,7 @@ fn read_integer<R: Read>(name: &str, reader: &mut R, first: u8) -> ReadResult<Ip
 fn read_bytes<R: Read>(alloc: Global, input: &mut Input<'_, R>) -> ReadResult<Ipld, R>
     requires { StartsWithMajor (input_reading R.reading input.old) 2 }
     ensures item { OverInput R.reading ReadsEnteredItem input.old result input.new }
-    ensures looked { OverInput R.reading (LooksBehind 3 1) input.old result input.new }
+    ensures looked { OverInput R.reading (LooksAfter 3 1) input.old result input.new }
     ensures variant { IfErr result OfItem }
 {
     Ok(Ipld::Bytes(pull_peeked_owned_bytes(alloc, input)?))
@@ -66,7 +66,7 @@ fn read_bytes<R: Read>(alloc: Global, input: &mut Input<'_, R>) -> ReadResult<Ip
 pub(crate) fn read_text<R: Read>(alloc: Global, input: &mut Input<'_, R>) -> ReadResult<String, R>
     requires { StartsWithMajor (input_reading R.reading input.old) 3 }
     ensures item { OverInput R.reading ReadsText input.old result input.new }
-    ensures looked { OverInput R.reading (LooksBehind 3 1) input.old result input.new }
+    ensures looked { OverInput R.reading (LooksAfter 3 1) input.old result input.new }
     ensures variant { IfErr result OfItem }
 {
     if let Some(payload) = input.take_string(3) {
@@ -99,7 +99,7 @@ fn read_simple<R: Read>(reader: &mut R, first: u8) -> ReadResult<Ipld, R>
     requires major { first / 32 ≡ 7 }
     requires definite { first % 32 ≢ 31 }
     ensures leaf { ReadsLeaf (R.reading reader.old) result (R.reading reader.new) }
-    ensures looked { LooksBehind 3 1 (R.reading reader.old) result (R.reading reader.new) }
+    ensures looked { LooksAfter 3 1 (R.reading reader.old) result (R.reading reader.new) }
     ensures variant { IfErr result OfItem }
 {
     match simple_value(first) {
@@ -115,7 +115,7 @@ fn read_simple<R: Read>(reader: &mut R, first: u8) -> ReadResult<Ipld, R>
 fn read_link_at_once<R: Read>(input: &mut Input<'_, R>) -> ReadResult<Ipld, R>
     requires { StartsDefinite (input_reading R.reading input.old) 6 }
     ensures leaf { OverInput R.reading ReadsLeaf input.old result input.new }
-    ensures looked { OverInput R.reading (LooksBehind 3 1) input.old result input.new }
+    ensures looked { OverInput R.reading (LooksAfter 3 1) input.old result input.new }
     ensures variant { IfErr result OfItem }
 {
     if let Some(cid) = take_link(input) {
@@ -134,7 +134,7 @@ pub(crate) fn read_leaf<R: Read>(
     requires leaf { 3 ≤ first / 32 → 6 ≤ first / 32 }
     requires definite { first % 32 ≢ 31 }
     ensures item { OverInput R.reading ReadsEnteredItem input.old result input.new }
-    ensures looked { OverInput R.reading (LooksBehind 3 1) input.old result input.new }
+    ensures looked { OverInput R.reading (LooksAfter 3 1) input.old result input.new }
     ensures variant { IfErr result OfItem }
 {
     match first / 32 {

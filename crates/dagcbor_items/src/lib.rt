@@ -27,7 +27,7 @@ mod utf8;
 mod walk;
 
 pub use any::read_any;
-pub use dagcbor_decode::behind_link;
+pub use dagcbor_decode::after_link;
 pub use key::{is_name, no_key, read_key, take_key, take_name, take_one_of};
 pub use link::{pull_link, take_link};
 pub use majors::pull_major;
@@ -36,7 +36,7 @@ pub use order::follows;
 pub use payloads::PayloadReader;
 pub use simple::{pull_bool, pull_null};
 pub use sink::{LinkSink, NoLinks};
-pub use skip::{behind_item, behind_items, behind_token};
+pub use skip::{after_item, after_items, after_token};
 pub use slices::any_from_slice;
 pub use strings::{pull_char, pull_owned_bytes, pull_owned_text, pull_slice, pull_str};
 pub use walk::{gather_links, skip_any, walk_any};

@@ -3,7 +3,7 @@
 ghost use Rattle.std.specs.Prelude.{◌≡◌, ℕ, List, codes, [], ◌∷◌, MatchResult, MatchOption, IfErr, IfSome};
 ghost use Rattle.dagcbor_heads.specs.Fronts.{Takes};
 ghost use Rattle.dagcbor_heads.specs.Refusals.{RefusesPlainly};
-ghost use Rattle.dagcbor_heads.specs.Looking.{Looks, LooksBehind, LooksAtTaken};
+ghost use Rattle.dagcbor_heads.specs.Looking.{Looks, LooksAfter, LooksAtTaken};
 ghost use Rattle.dagcbor_heads.specs.Inputs.{input_reading};
 ghost use Rattle.ipld_tree.specs.Cid.{cid_bytes};
 ghost use Rattle.ipld_tree.specs.Tree.{bytes};
@@ -49,7 +49,7 @@ pub(crate) fn pull_wanted<R: Read>(
 }
 
 /// Returns the CID after a zero.
-fn cid_behind_zero(payload: &[u8]) -> Option<Cid>
+fn cid_after_zero(payload: &[u8]) -> Option<Cid>
     ensures { IsZeroAndCid payload.now result }
 {
     match payload {
@@ -67,11 +67,11 @@ fn split_tagged(front: &[u8]) -> Option<(&[u8], &[u8])>
     let [0xd8, 0x2a, tagged @ ..] = front else {
         return None;
     };
-    let (major, count, behind) = split_head(tagged)?;
+    let (major, count, following) = split_head(tagged)?;
     if major != 2 {
         return None;
     }
-    split_payload(behind, count)
+    split_payload(following, count)
 }
 
 /// Takes the link at the front, if all of it is at hand. It may take nothing.
@@ -86,9 +86,9 @@ pub fn take_link<R: Read>(input: &mut Input<'_, R>) -> Option<Cid>
         (input_reading R.reading input.new)) }
 {
     let front = input.at_hand();
-    let (payload, behind) = split_tagged(front)?;
-    let cid = cid_behind_zero(payload)?;
-    let count = front.len() - behind.len();
+    let (payload, following) = split_tagged(front)?;
+    let cid = cid_after_zero(payload)?;
+    let count = front.len() - following.len();
     if !input.take_at_hand(count) {
         return None;
     }
@@ -107,7 +107,7 @@ fn pull_cid_string<R: Read>(reader: &mut R) -> ReadResult<Cid, R>
         return Err(DecodeError::custom("Invalid CID"));
     }
     let payload: ArrayVec<u8, LONGEST_CID> = pull_short_payload("cid", reader, count)?;
-    match cid_behind_zero(&payload) {
+    match cid_after_zero(&payload) {
         Some(cid) => Ok(cid),
         None => Err(DecodeError::custom("Invalid CID")),
     }
@@ -133,7 +133,7 @@ pub fn pull_link<R: Read>(reader: &mut R) -> ReadResult<Cid, R>
     ensures link { ReadsLink (R.reading reader.old) result (R.reading reader.new) }
     ensures looked { Looks 3 (R.reading reader.old) result (R.reading reader.new) }
     ensures peeked { StartsWithMajor (R.reading reader.old) 6
-        → LooksBehind 3 1 (R.reading reader.old) result (R.reading reader.new) }
+        → LooksAfter 3 1 (R.reading reader.old) result (R.reading reader.new) }
     ensures variant { IfErr result OfLink }
 {
     pull_wanted("tag head", "CBOR tag head", reader, 0xd8)?;
@@ -145,7 +145,7 @@ pub fn pull_link<R: Read>(reader: &mut R) -> ReadResult<Cid, R>
 pub(crate) fn read_link<R: Read>(reader: &mut R) -> ReadResult<Ipld, R>
     requires { StartsDefinite (R.reading reader.old) 6 }
     ensures leaf { ReadsLeaf (R.reading reader.old) result (R.reading reader.new) }
-    ensures looked { LooksBehind 3 1 (R.reading reader.old) result (R.reading reader.new) }
+    ensures looked { LooksAfter 3 1 (R.reading reader.old) result (R.reading reader.new) }
     ensures variant { IfErr result OfItem }
 {
     Ok(Ipld::Link(pull_link(reader)?))

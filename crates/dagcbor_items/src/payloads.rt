@@ -4,7 +4,7 @@
 ghost use Rattle.std.specs.Prelude.{◌≡◌, ◌<◌, ◌↔◌, ℕ, List, true, false, IsTrue, option_map, IfErr};
 ghost use Rattle.std.specs.Prelude.{◌+◌, [], length, MatchBool, IfSome};
 ghost use Rattle.std.specs.Cow.{cow_str_bytes};
-ghost use Rattle.dagcbor_heads.specs.Looking.{Looks, LooksBehind, LooksAtTaken};
+ghost use Rattle.dagcbor_heads.specs.Looking.{Looks, LooksAfter, LooksAtTaken};
 ghost use Rattle.ipld_tree.specs.Tree.{Tree, any_need, links_of};
 ghost use Rattle.ipld_tree.specs.Spelling.{IsFront};
 ghost use Rattle.dagcbor_items.specs.Majors.{ReadsString};
@@ -20,7 +20,7 @@ use crate::order::follows;
 use crate::strings::{no_text, pull_peeked_slice, pull_peeked_str};
 use crate::utf8::as_text;
 use dagcbor_core::{DecodeError, Len, Name, split_head};
-use dagcbor_decode::behind_leaf;
+use dagcbor_decode::after_leaf;
 use dagcbor_heads::{Input, Read, ReadResult, SliceReader, pull_head};
 use std::alloc::Global;
 use std::borrow::CowStr;
@@ -61,14 +61,14 @@ pub trait PayloadReader: Read {
     fn skip_bytes(&mut self, alloc: Self::Alloc) -> ReadResult<(), Self>
         requires { StartsWithMajor (Self.reading self.old) 2 }
         ensures item { SkipsEnteredItem (Self.reading self.old) result (Self.reading self.new) }
-        ensures looked { LooksBehind 3 1 (Self.reading self.old) result (Self.reading self.new) }
+        ensures looked { LooksAfter 3 1 (Self.reading self.old) result (Self.reading self.new) }
         ensures variant { IfErr result OfHead };
 
     /// Skips a text whose first byte was peeked, and checks that it is UTF-8.
     fn skip_text(&mut self, alloc: Self::Alloc) -> ReadResult<(), Self>
         requires { StartsWithMajor (Self.reading self.old) 3 }
         ensures item { SkipsEnteredItem (Self.reading self.old) result (Self.reading self.new) }
-        ensures looked { LooksBehind 3 1 (Self.reading self.old) result (Self.reading self.new) }
+        ensures looked { LooksAfter 3 1 (Self.reading self.old) result (Self.reading self.new) }
         ensures variant { IfErr result OfText };
 }
 
@@ -197,11 +197,11 @@ fn leaf_length(bytes: &[u8]) -> Option<usize>
     ensures { IfSome result (λ n. (t : Tree) × (rest : List ℕ) × IsFront bytes.now t rest
         × (any_need t ≡ 1) × (links_of t ≡ []) × (n + length rest ≡ length bytes.now)) }
 {
-    let (major, argument, behind) = split_head(bytes)?;
+    let (major, argument, following) = split_head(bytes)?;
     if major == 4 || major == 5 || major == 6 {
         return None;
     }
-    let rest = behind_leaf(major, argument, behind)?;
+    let rest = after_leaf(major, argument, following)?;
     Some(bytes.len() - rest.len())
 }
 

@@ -3,31 +3,31 @@
 ghost use Rattle.std.specs.Prelude.{◌≡◌, ◌<◌, ◌≤◌, ◌^◌, length, drop, MatchOption, IsTrue};
 ghost use Rattle.std.specs.Prelude.{if◌then◌else◌};
 ghost use Rattle.dagcbor_decode.specs.Rows.{is_string};
-ghost use Rattle.dagcbor_items.specs.Skips.{part_count, FindsBehindItems};
+ghost use Rattle.dagcbor_items.specs.Skips.{part_count, FindsAfterItems};
 
 use dagcbor_core::split_head;
 
 /// Returns the bytes after a token whose head was split off: after its string, if it has one.
 /// `None` if the string is cut.
 #[inline(always)]
-pub fn behind_token(major: u8, argument: u64, behind: &[u8]) -> Option<&[u8]>
+pub fn after_token(major: u8, argument: u64, following: &[u8]) -> Option<&[u8]>
     ensures { MatchOption result
-        (IsTrue (is_string major) × (length behind.now < argument))
-        (λ rest. (IsTrue (is_string major) → argument ≤ length behind.now)
-        × (rest.now ≡ (if is_string major then drop argument behind.now else behind.now))) }
+        (IsTrue (is_string major) × (length following.now < argument))
+        (λ rest. (IsTrue (is_string major) → argument ≤ length following.now)
+        × (rest.now ≡ (if is_string major then drop argument following.now else following.now))) }
 {
     if major != 2 && major != 3 {
-        return Some(behind);
+        return Some(following);
     }
-    if (behind.len() as u64) < argument {
+    if (following.len() as u64) < argument {
         return None;
     }
-    Some(behind.split_at(argument as usize).1)
+    Some(following.split_at(argument as usize).1)
 }
 
 /// Returns how many items follow the head as parts of its item, or `None` if that is 2^64 or more.
 #[inline(always)]
-fn parts_behind(major: u8, argument: u64) -> Option<u64>
+fn parts_after(major: u8, argument: u64) -> Option<u64>
     ensures { MatchOption result (2 ^ 64 ≤ part_count major argument)
         (λ n. n ≡ part_count major argument) }
 {
@@ -43,22 +43,22 @@ fn parts_behind(major: u8, argument: u64) -> Option<u64>
 /// followed by their parts, those of strings by their bytes. It does not validate. If the bytes
 /// begin with items, this is where they end (`items_found` in `proofs/Skipping.antt`). Bytes that
 /// are not items may have such an end too.
-pub fn behind_items(bytes: &[u8], count: u64) -> Option<&[u8]>
-    ensures { FindsBehindItems (λ s. s.now) bytes.now count result }
+pub fn after_items(bytes: &[u8], count: u64) -> Option<&[u8]>
+    ensures { FindsAfterItems (λ s. s.now) bytes.now count result }
 {
     let mut rest = bytes;
     let mut more = count;
     while more > 0 {
-        let (major, argument, behind) = split_head(rest)?;
-        rest = behind_token(major, argument, behind)?;
-        more = (more - 1).checked_add(parts_behind(major, argument)?)?;
+        let (major, argument, following) = split_head(rest)?;
+        rest = after_token(major, argument, following)?;
+        more = (more - 1).checked_add(parts_after(major, argument)?)?;
     }
     Some(rest)
 }
 
-/// Returns the bytes after the item at the front, as `behind_items` finds them.
-pub fn behind_item(bytes: &[u8]) -> Option<&[u8]>
-    ensures { FindsBehindItems (λ s. s.now) bytes.now 1 result }
+/// Returns the bytes after the item at the front, as `after_items` finds them.
+pub fn after_item(bytes: &[u8]) -> Option<&[u8]>
+    ensures { FindsAfterItems (λ s. s.now) bytes.now 1 result }
 {
-    behind_items(bytes, 1)
+    after_items(bytes, 1)
 }

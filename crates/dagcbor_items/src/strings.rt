@@ -149,11 +149,11 @@ fn split_text(front: &[u8]) -> Option<(&str, usize)>
     ensures { IfSome result (λ p. (rest : List ℕ) × IsFront front.now (text p.0.now) rest
         × (p.1 + length rest ≡ length front.now)) }
 {
-    let (major, count, behind) = split_head(front)?;
+    let (major, count, following) = split_head(front)?;
     if major != 3 {
         return None;
     }
-    let (payload, rest) = split_payload(behind, count)?;
+    let (payload, rest) = split_payload(following, count)?;
     Some((as_text(payload)?, front.len() - rest.len()))
 }
 

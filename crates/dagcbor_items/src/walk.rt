@@ -3,7 +3,7 @@
 
 ghost use Rattle.std.specs.Prelude.{◌≡◌, ◌≢◌, ◌≤◌, ◌/◌, ◌%◌, IfErr};
 ghost use Rattle.dagcbor_heads.specs.Fronts.{StartsWith};
-ghost use Rattle.dagcbor_heads.specs.Looking.{Looks, LooksSome, LooksBehind};
+ghost use Rattle.dagcbor_heads.specs.Looking.{Looks, LooksSome, LooksAfter};
 ghost use Rattle.dagcbor_items.specs.Untyped.{SkipsItem, SkipsEnteredItem, StartsDefinite};
 ghost use Rattle.dagcbor_items.specs.Leaves.{number_name};
 ghost use Rattle.dagcbor_items.specs.AnsweredVariants.{OfItem};
@@ -112,7 +112,7 @@ fn walk_of_major<I: PayloadReader, S: LinkSink>(
     requires definite { first % 32 ≢ 31 }
     ensures item { WalksEnteredItem S.sink (I.reading input.old) links.old result
         (I.reading input.new) links.new }
-    ensures looked { LooksBehind 3 1 (I.reading input.old) result (I.reading input.new) }
+    ensures looked { LooksAfter 3 1 (I.reading input.old) result (I.reading input.new) }
     ensures variant { IfErr result OfItem }
 {
     match first / 32 {
@@ -128,7 +128,7 @@ fn walk_link<R: Read, S: LinkSink>(reader: &mut R, links: &mut S) -> ReadResult<
     requires { StartsDefinite (R.reading reader.old) 6 }
     ensures item { WalksEnteredItem S.sink (R.reading reader.old) links.old result
         (R.reading reader.new) links.new }
-    ensures looked { LooksBehind 3 1 (R.reading reader.old) result (R.reading reader.new) }
+    ensures looked { LooksAfter 3 1 (R.reading reader.old) result (R.reading reader.new) }
     ensures variant { IfErr result OfItem }
 {
     let cid = pull_link(reader)?;
@@ -147,7 +147,7 @@ fn skip_leaf<I: PayloadReader>(alloc: I::Alloc, input: &mut I, first: u8) -> Rea
     requires no_link { first / 32 ≢ 6 }
     requires definite { first % 32 ≢ 31 }
     ensures item { SkipsEnteredItem (I.reading input.old) result (I.reading input.new) }
-    ensures looked { LooksBehind 3 1 (I.reading input.old) result (I.reading input.new) }
+    ensures looked { LooksAfter 3 1 (I.reading input.old) result (I.reading input.new) }
     ensures variant { IfErr result OfItem }
 {
     match first / 32 {
@@ -165,7 +165,7 @@ fn skip_integer<R: Read>(name: &str, reader: &mut R, first: u8) -> ReadResult<()
     requires major { first / 32 ≤ 1 }
     requires named { name.now ≡ number_name (first / 32) }
     ensures item { SkipsEnteredItem (R.reading reader.old) result (R.reading reader.new) }
-    ensures looked { LooksBehind 3 1 (R.reading reader.old) result (R.reading reader.new) }
+    ensures looked { LooksAfter 3 1 (R.reading reader.old) result (R.reading reader.new) }
     ensures variant { IfErr result OfItem }
 {
     pull_head_argument(name, reader)?;
@@ -178,7 +178,7 @@ fn skip_simple<R: Read>(reader: &mut R, first: u8) -> ReadResult<(), R>
     requires major { first / 32 ≡ 7 }
     requires definite { first % 32 ≢ 31 }
     ensures item { SkipsEnteredItem (R.reading reader.old) result (R.reading reader.new) }
-    ensures looked { LooksBehind 3 1 (R.reading reader.old) result (R.reading reader.new) }
+    ensures looked { LooksAfter 3 1 (R.reading reader.old) result (R.reading reader.new) }
     ensures variant { IfErr result OfItem }
 {
     if first < 0xf4 || first > 0xf6 {
@@ -197,7 +197,7 @@ fn walk_list<I: PayloadReader, S: LinkSink>(
     requires { StartsDefinite (I.reading input.old) 4 }
     ensures item { WalksEnteredItem S.sink (I.reading input.old) links.old result
         (I.reading input.new) links.new }
-    ensures looked { LooksBehind 3 1 (I.reading input.old) result (I.reading input.new) }
+    ensures looked { LooksAfter 3 1 (I.reading input.old) result (I.reading input.new) }
     ensures variant { IfErr result OfItem }
 {
     let count = enter("array", input)?;
@@ -233,7 +233,7 @@ fn walk_map<I: PayloadReader, S: LinkSink>(
     requires { StartsDefinite (I.reading input.old) 5 }
     ensures item { WalksEnteredItem S.sink (I.reading input.old) links.old result
         (I.reading input.new) links.new }
-    ensures looked { LooksBehind 3 1 (I.reading input.old) result (I.reading input.new) }
+    ensures looked { LooksAfter 3 1 (I.reading input.old) result (I.reading input.new) }
     ensures variant { IfErr result OfItem }
 {
     let count = enter("map", input)?;

@@ -6,13 +6,14 @@
 //! `include/dagcbor_memory.h` has the C declarations, and what a caller must ensure.
 #![tactic(auto)]
 
-ghost use Rattle.memory_calls.specs.Answers.{IsRepositoryAnswer, IsCommitAnswer, IsProofAnswer};
-ghost use Rattle.memory_calls.specs.JsonAnswers.{IsToJsonAnswer, IsFromJsonAnswer};
-ghost use Rattle.event_calls.specs.Frames.{IsFrameAnswer};
-ghost use Rattle.event_calls.specs.Events.{IsEventAnswer};
+ghost use Rattle.abi_memory_calls.specs.Answers.{IsRepositoryAnswer, IsCommitAnswer, IsProofAnswer};
+ghost use Rattle.abi_memory_calls.specs.JsonAnswers.{IsToJsonAnswer, IsFromJsonAnswer};
+ghost use Rattle.abi_memory_calls.specs.Frames.{IsFrameAnswer};
+ghost use Rattle.abi_memory_calls.specs.Events.{IsEventAnswer};
 
-use event_calls::{place_frame, put_event};
-use memory_calls::{put_block, put_commit, put_json, put_proof, put_repo};
+use abi_memory_calls::{
+    place_frame, put_block, put_commit, put_event, put_json, put_proof, put_repo,
+};
 use std::alloc::Global;
 
 /// Puts the data of the block, in DAG-JSON, at the front of `out`, if it fits, and returns the
@@ -53,7 +54,7 @@ pub extern "C" fn dagcbor_from_json(
 /// if that and its tree are whole, and returns 0; else it makes a line that says why not, and
 /// returns 1. `needed` becomes its length; if it fits, it is put at the front of `out`; else `out`
 /// stays, and it returns -21. If memory runs out, it returns -42, `needed` becomes 0, and `out`
-/// stays. `memory_calls::repo_answer` says what is in the block.
+/// stays. `abi_memory_calls::repo_answer` says what is in the block.
 #[unsafe(no_mangle)]
 pub extern "C" fn dagcbor_repository(
     alloc: Global,
@@ -69,7 +70,7 @@ pub extern "C" fn dagcbor_repository(
 /// Makes a block that describes the commit that the first root of a CAR file names, and returns 0;
 /// else it makes a line that says why there is none, and returns 1. Of the file's blocks only the
 /// commit's is needed. `needed`, `out` and the other numbers are as for `dagcbor_repository`.
-/// `memory_calls::commit_answer` says what is in the block.
+/// `abi_memory_calls::commit_answer` says what is in the block.
 #[unsafe(no_mangle)]
 pub extern "C" fn dagcbor_commit(
     alloc: Global,

@@ -33,35 +33,35 @@ module _ {V W : Type 0} (held : V → W) (part : Shape Tree V) (whole : Shape Tr
 
 -- ---- the value of a key
 
-module _ {O S H T E : Type 0} (held : O → S → H) (own : O) (s : S) (others : List (List ℕ) → Shape Tree S) (behind : List (List ℕ)) (whole : Shape Tree H) where
+module _ {O S H T E : Type 0} (held : O → S → H) (own : O) (s : S) (others : List (List ℕ) → Shape Tree S) (following : List (List ℕ)) (whole : Shape Tree H) where
   -- it goes to the group
-  pub field_own_read : (shape : Option (Shape Tree O)) (o : O) (old new : DeState) (r : Result T (DecodeError E)) → GoesTo held shape own s (others behind) whole
+  pub field_own_read : (shape : Option (Shape Tree O)) (o : O) (old new : DeState) (r : Result T (DecodeError E)) → GoesTo held shape own s (others following) whole
       → IsSomeAnd shape (λ part. ReadsValue (λ _. o) part old r new) → ReadsValue (λ _. held o s) whole old r new
   field_own_read (Some part) o old new r like h = reads_like (λ x. held x s) part whole like o old new r h
   field_own_read None o old new r like h = absurd h
 
   -- it goes to the others
-  passed_here : (shape : Option (Shape Tree O)) (after : S) (old new : DeState) (r : Result T (DecodeError E)) → GoesTo held shape own s (others behind) whole
-      → shape ≡ None → ReadsValue (λ _. after) (others behind) old r new → ReadsValue (λ _. held own after) whole old r new
+  passed_here : (shape : Option (Shape Tree O)) (after : S) (old new : DeState) (r : Result T (DecodeError E)) → GoesTo held shape own s (others following) whole
+      → shape ≡ None → ReadsValue (λ _. after) (others following) old r new → ReadsValue (λ _. held own after) whole old r new
   passed_here (Some part) after old new r like is h = absurd (cc is)
-  passed_here None after old new r like is h = reads_like (held own) (others behind) whole like after old new r h
+  passed_here None after old new r like is h = reads_like (held own) (others following) whole like after old new r h
 
-  pub field_passed_on : (shape : Option (Shape Tree O)) (o : O) (after : S) (names : List (List ℕ)) (old now new : DeState) (r : Result T (DecodeError E)) → GoesTo held shape own s (others behind) whole
-      → shape ≡ None → o ≡ own → now ≡ old → names ≡ behind → ReadsValue (λ _. after) (others names) now r new → ReadsValue (λ _. held o after) whole old r new
+  pub field_passed_on : (shape : Option (Shape Tree O)) (o : O) (after : S) (names : List (List ℕ)) (old now new : DeState) (r : Result T (DecodeError E)) → GoesTo held shape own s (others following) whole
+      → shape ≡ None → o ≡ own → now ≡ old → names ≡ following → ReadsValue (λ _. after) (others names) now r new → ReadsValue (λ _. held o after) whole old r new
   field_passed_on shape o after names old now new r like is kept same skipped h =
       subst (λ x. ReadsValue (λ _. held x after) whole old r new) (sym kept) (passed_here shape after old new r like is
-      (subst (λ x. ReadsValue (λ _. after) (others behind) x r new) same (subst (λ x. ReadsValue (λ _. after) (others x) now r new) skipped h)))
+      (subst (λ x. ReadsValue (λ _. after) (others following) x r new) same (subst (λ x. ReadsValue (λ _. after) (others x) now r new) skipped h)))
 
 -- ---- an entry whose key a slice has whole
 
-module _ {O S H : Type 0} (held : O → S → H) (shape : O → List ℕ → Option (Shape Tree O)) (others : List (List ℕ) → FieldShape S) (behind : List (List ℕ)) (row : FieldShape H) (own : O) (s : S)
-    (joins : (k : List ℕ) → GoesTo held (shape own k) own s (value_of (others behind) s k) (value_of row (held own s) k))
+module _ {O S H : Type 0} (held : O → S → H) (shape : O → List ℕ → Option (Shape Tree O)) (others : List (List ℕ) → FieldShape S) (following : List (List ℕ)) (row : FieldShape H) (own : O) (s : S)
+    (joins : (k : List ℕ) → GoesTo held (shape own k) own s (value_of (others following) s k) (value_of row (held own s) k))
   where
     like_own : (key : List ℕ) (part : Shape Tree O) → shape own key ≡ Some part → IsLike (λ o. held o s) part (value_of row (held own s) key)
-    like_own key part is = subst (λ x. GoesTo held x own s (value_of (others behind) s key) (value_of row (held own s) key)) is (joins key)
+    like_own key part is = subst (λ x. GoesTo held x own s (value_of (others following) s key) (value_of row (held own s) key)) is (joins key)
 
-    like_others : (key : List ℕ) → shape own key ≡ None → IsLike (held own) (value_of (others behind) s key) (value_of row (held own s) key)
-    like_others key is = subst (λ x. GoesTo held x own s (value_of (others behind) s key) (value_of row (held own s) key)) is (joins key)
+    like_others : (key : List ℕ) → shape own key ≡ None → IsLike (held own) (value_of (others following) s key) (value_of row (held own s) key)
+    like_others key is = subst (λ x. GoesTo held x own s (value_of (others following) s key) (value_of row (held own s) key)) is (joins key)
 
     -- its value goes to the group
     pub own_in_row : {E : Type 0} (before after : AccessorState) (old new : DeState) (refusal : Option (DecodeError E)) (o : O)
@@ -88,38 +88,38 @@ module _ {O S H : Type 0} (held : O → S → H) (shape : O → List ℕ → Opt
     -- it goes to the others
     others_here : {E : Type 0} (before after : AccessorState) (old new : DeState) (taken : Bool) (refusal : Option (DecodeError E)) (t : S)
         → ((k : List ℕ) → HasName before.last k old.input → shape own k ≡ None)
-        → ReadsNamed (others behind) s before old taken refusal t after new → ReadsNamed row (held own s) before old taken refusal (held own t) after new
+        → ReadsNamed (others following) s before old taken refusal t after new → ReadsNamed row (held own s) before old taken refusal (held own t) after new
     others_here before after old new true refusal t other h = record {
       key = h.key;
       mid = h.mid;
       begun = h.begun;
       counted = h.counted;
       sound = h.sound;
-      value = takes_like (held own) (value_of (others behind) s h.key) (value_of row (held own s) h.key) (like_others h.key (other h.key h.begun.is)) h.value;
+      value = takes_like (held own) (value_of (others following) s h.key) (value_of row (held own s) h.key) (like_others h.key (other h.key h.begun.is)) h.value;
     }
     others_here before after old new false (Some e) t other h = record {
       key = h.key;
       mid = h.mid;
       begun = h.begun;
-      refused = refuses_like (held own) (value_of (others behind) s h.key) (value_of row (held own s) h.key) (like_others h.key (other h.key h.begun.is)) h.mid.input new.input e h.refused;
+      refused = refuses_like (held own) (value_of (others following) s h.key) (value_of row (held own s) h.key) (like_others h.key (other h.key h.begun.is)) h.mid.input new.input e h.refused;
     }
     others_here before after old new false None t other h = (ap (held own) h.0, h.1, h.2)
 
     pub others_in_row : {E : Type 0} (before mid after : AccessorState) (old now new : DeState) (none : Option (DecodeError E)) (taken : Bool) (refusal : Option (DecodeError E)) (o : O) (t : S) (names : List (List ℕ))
-        → false ≡ is_some none → names ≡ behind → ReadsOwnNamed shape own before old false none o mid now
+        → false ≡ is_some none → names ≡ following → ReadsOwnNamed shape own before old false none o mid now
         → ReadsNamed (others names) s mid now taken refusal t after new → ReadsNamed row (held own s) before old taken refusal (held o t) after new
     others_in_row before mid after old now new (Some e) taken refusal o t names is skipped p h = absurd (cc is)
     others_in_row before mid after old now new None taken refusal o t names is skipped p h =
         subst (λ x. ReadsNamed row (held own s) before old taken refusal (held x t) after new) (sym p.kept)
         (others_here before after old new taken refusal t p.other
-        (subst (λ x. ReadsNamed (others behind) s x old taken refusal t after new) p.counted (subst (λ x. ReadsNamed (others behind) s mid x taken refusal t after new) p.same
+        (subst (λ x. ReadsNamed (others following) s x old taken refusal t after new) p.counted (subst (λ x. ReadsNamed (others following) s mid x taken refusal t after new) p.same
         (subst (λ x. ReadsNamed (others x) s mid now taken refusal t after new) skipped h))))
 
 -- ---- two groups
 
-module _ {A B : Type 0} (first : A → List ℕ → Option (Shape Tree A)) (others : List (List ℕ) → B → List ℕ → Option (Shape Tree B)) (behind : List (List ℕ)) (a : A) (b : B) where
+module _ {A B : Type 0} (first : A → List ℕ → Option (Shape Tree A)) (others : List (List ℕ) → B → List ℕ → Option (Shape Tree B)) (following : List (List ℕ)) (a : A) (b : B) where
   abbrev second : B → List ℕ → Option (Shape Tree B)
-  second = others behind
+  second = others following
 
   abbrev both : A × B → List ℕ → Option (Shape Tree (A × B))
   both o k = either_own o.0 o.1 (first o.0 k) (second o.1 k)
@@ -190,7 +190,7 @@ module _ {A B : Type 0} (first : A → List ℕ → Option (Shape Tree A)) (othe
   }
 
   pub second_named : {E : Type 0} (before mid after : AccessorState) (old now new : DeState) (none : Option (DecodeError E)) (taken : Bool) (refusal : Option (DecodeError E)) (x : A) (o : B) (names : List (List ℕ))
-      → false ≡ is_some none → names ≡ behind → ReadsOwnNamed first a before old false none x mid now
+      → false ≡ is_some none → names ≡ following → ReadsOwnNamed first a before old false none x mid now
       → ReadsOwnNamed (others names) b mid now taken refusal o after new → ReadsOwnNamed both (a, b) before old taken refusal (x, o) after new
   second_named before mid after old now new (Some e) taken refusal x o names is skipped p h = absurd (cc is)
   second_named before mid after old now new None taken refusal x o names is skipped p h =

@@ -56,17 +56,17 @@ enum_entered e {old} {mid} s = by e.in_map s.3
 
 -- the bytes after the beginning, and those before it
 record Opened (e : EnumState) (b : List ℕ) (mid : Reading) : Type 0 where
-  behind : List ℕ
-  left : mid.left ≡ Some behind
-  form : ((e.in_map ≡ true) × (b ≡ 161 ∷ behind)) ⊎ ((e.in_map ≡ false) × (b ≡ behind) × ((more : List ℕ) × (b ≡ e.first ∷ more)) × (e.first / 32 ≡ 3))
+  following : List ℕ
+  left : mid.left ≡ Some following
+  form : ((e.in_map ≡ true) × (b ≡ 161 ∷ following)) ⊎ ((e.in_map ≡ false) × (b ≡ following) × ((more : List ℕ) × (b ≡ e.first ∷ more)) × (e.first / 32 ≡ 3))
 
 enum_opened : (e : EnumState) (old mid : Reading) (b : List ℕ) → Spent e old mid → old.left ≡ Some b → Opened e b mid
 unfolding Spent
 enum_opened e old mid b s l = by e.in_map refl s.3
   where
     by : (m : Bool) → e.in_map ≡ m → MatchBool m ((e.first ≡ 0xa1) × Takes (with_steps (old.steps - 1) old) (0xa1 ∷ []) mid) ((e.first / 32 ≡ 3) × ShowsByte (with_steps (old.steps - 1) old) e.first mid) → Opened e b mid
-    by true is h = let k = h.1.taken b l in record { behind = k.0; left = k.2; form = inl (is, k.1) }
-    by false is h = record { behind = b; left = h.1.kept b l; form = inr (is, refl, h.1.starts b l, h.0) }
+    by true is h = let k = h.1.taken b l in record { following = k.0; left = k.2; form = inl (is, k.1) }
+    by false is h = record { following = b; left = h.1.kept b l; form = inr (is, refl, h.1.starts b l, h.0) }
 
 -- ---- an enum whose variant was named
 
@@ -137,38 +137,38 @@ module _ {V : Type 0} (shape : EnumShape V) where
   ]
 
   -- what follows the beginning
-  Behind : EnumState → Reading → Reading → Type 0
-  Behind e old mid = ((e.in_map ≡ false) × (u : UnitFront old) × (mid.left ≡ Some u.bytes)) ⊎ ((e.in_map ≡ true) × (p : PartFront old) × (mid.left ≡ Some p.after_head))
+  Following : EnumState → Reading → Reading → Type 0
+  Following e old mid = ((e.in_map ≡ false) × (u : UnitFront old) × (mid.left ≡ Some u.bytes)) ⊎ ((e.in_map ≡ true) × (p : PartFront old) × (mid.left ≡ Some p.after_head))
 
-  behind_unit : (e : EnumState) {old mid : Reading} → (u : UnitFront old) → Opened e u.bytes mid → Behind e old mid
-  unfolding Behind
-  behind_unit e u o = elim o.form [
+  after_unit : (e : EnumState) {old mid : Reading} → (u : UnitFront old) → Opened e u.bytes mid → Following e old mid
+  unfolding Following
+  after_unit e u o = elim o.form [
     | inl m ↦
         let f = front_first u.bytes u.rest (text u.name) u.front in
-        let both : 161 ∷ o.behind ≡ (32 * 3 + f.0) ∷ f.1 = sym m.1 ∙ f.3 in
+        let both : 161 ∷ o.following ≡ (32 * 3 + f.0) ∷ f.1 = sym m.1 ∙ f.3 in
         let first : 161 ≡ 32 * 3 + f.0 = cc both in
         absurd (omega (arith, first, f.2))
     | inr n ↦ inl (n.0, u, o.left ∙ ap Some (sym n.1))
   ]
 
-  behind_part : (e : EnumState) {old mid : Reading} → (p : PartFront old) → Opened e (161 ∷ p.after_head) mid → Behind e old mid
-  unfolding Behind
-  behind_part e p o = elim o.form [
+  after_part : (e : EnumState) {old mid : Reading} → (p : PartFront old) → Opened e (161 ∷ p.after_head) mid → Following e old mid
+  unfolding Following
+  after_part e p o = elim o.form [
     | inl m ↦ inr (m.0, p, o.left ∙ ap Some (cc (sym m.1)))
     | inr n ↦
         let first : 161 ≡ e.first = cc n.2.1 in
         absurd (omega (arith, first, n.3))
   ]
 
-  behind : (e : EnumState) (old mid : Reading) → Spent e old mid → HasFront (enum_of shape) old → Behind e old mid
-  behind e old mid s h = elim (by_form h) [
-    | inl u ↦ behind_unit e u (enum_opened e old mid u.bytes s u.left)
-    | inr p ↦ behind_part e p (enum_opened e old mid (161 ∷ p.after_head) s p.left)
+  following : (e : EnumState) (old mid : Reading) → Spent e old mid → HasFront (enum_of shape) old → Following e old mid
+  following e old mid s h = elim (by_form h) [
+    | inl u ↦ after_unit e u (enum_opened e old mid u.bytes s u.left)
+    | inr p ↦ after_part e p (enum_opened e old mid (161 ∷ p.after_head) s p.left)
   ]
 
   name_stands : (e : EnumState) {old mid : Reading} → Spent e old mid → HasFront (enum_of shape) old → HasFront (leaf view_text) mid
-  unfolding Behind
-  name_stands e {old} {mid} s h = elim (behind e old mid s h) [
+  unfolding Following
+  name_stands e {old} {mid} s h = elim (following e old mid s h) [
     | inl u ↦ record { bytes = u.1.bytes; tree = text u.1.name; rest = u.1.rest; left = u.2; front = u.1.front; accepted = refl; within = zero-le }
     | inr p ↦ record { bytes = p.1.after_head; tree = text p.1.name; rest = p.1.after_name; left = p.2; front = p.1.name_front; accepted = refl; within = zero-le }
   ]
@@ -176,8 +176,8 @@ module _ {V : Type 0} (shape : EnumShape V) where
   -- a variant whose name was read is a unit, or its content comes after its name
   variant_stands : {e : EnumState} {k : List ℕ} {old now : Reading} → Named e k old now → HasFront (enum_of shape) old
       → ((e.in_map ≡ false) × (is_some (shape.unit k) ≡ true)) ⊎ ((e.in_map ≡ true) × HasFront (part_of shape k) now)
-  unfolding Behind
-  variant_stands {e} {k} {old} {now} n h = elim (behind e old n.mid n.spent h) [
+  unfolding Following
+  variant_stands {e} {k} {old} {now} n h = elim (following e old n.mid n.spent h) [
     | inl u ↦
         let t = n.name.taken u.1.bytes u.2 in
         let same = front_unique u.1.bytes t.1 u.1.rest t.0 (text u.1.name) t.2 u.1.front in
@@ -232,8 +232,8 @@ module _ {V : Type 0} (shape : EnumShape V) where
       record {
         taken = λ b l.
             let o = enum_opened e old n.mid b n.spent l in
-            let same : o.behind ≡ b = elim o.form [ inl m ↦ absurd (cc (sym m.0 ∙ h.0)) | inr f ↦ sym f.1 ] in
-            let t = n.name.taken o.behind o.left in
+            let same : o.following ≡ b = elim o.form [ inl m ↦ absurd (cc (sym m.0 ∙ h.0)) | inr f ↦ sym f.1 ] in
+            let t = n.name.taken o.following o.left in
             let name = text_of t.0 k t.3 in (
               t.0,
               t.1,
@@ -246,13 +246,13 @@ module _ {V : Type 0} (shape : EnumShape V) where
       }
 
   -- the bytes of the map
-  map_front : (behind after_name rest k : List ℕ) (t : Tree) → IsFront behind (text k) after_name → IsFront after_name t rest → IsFront (161 ∷ behind) (mapping (entry k t no_entries)) rest
-  map_front behind after_name rest k t f g =
-      let inside = entry_closed behind after_name rest rest k t no_entries f g tt (record { well_formed = tt; spellable = tt; is = refl }) in
+  map_front : (following after_name rest k : List ℕ) (t : Tree) → IsFront following (text k) after_name → IsFront after_name t rest → IsFront (161 ∷ following) (mapping (entry k t no_entries)) rest
+  map_front following after_name rest k t f g =
+      let inside = entry_closed following after_name rest rest k t no_entries f g tt (record { well_formed = tt; spellable = tt; is = refl }) in
       record {
         well_formed = inside.well_formed;
         spellable = (omega arith, inside.spellable);
-        is = ap (λ h. h ++ behind) (sym one_pair) ∙ (ap (λ x. head 5 1 ++ x) inside.is ∙ sym (append_assoc (head 5 1) (entries_spelling (entry k t no_entries)) rest));
+        is = ap (λ h. h ++ following) (sym one_pair) ∙ (ap (λ x. head 5 1 ++ x) inside.is ∙ sym (append_assoc (head 5 1) (entries_spelling (entry k t no_entries)) rest));
       }
 
   pub part_taken : {e : EnumState} {k : List ℕ} {old now after new : Reading} {v : V} → Named e k old now → e.in_map ≡ true → TakesFront (part_of shape k) now v after → new ≡ with_steps (after.steps + e.steps) after
@@ -263,12 +263,12 @@ module _ {V : Type 0} (shape : EnumShape V) where
       record {
         taken = λ b l.
             let o = enum_opened e old n.mid b n.spent l in
-            let same : b ≡ 161 ∷ o.behind = elim o.form [ inl f ↦ f.1 | inr f ↦ absurd (cc (sym m ∙ f.0)) ] in
-            let t = n.name.taken o.behind o.left in
+            let same : b ≡ 161 ∷ o.following = elim o.form [ inl f ↦ f.1 | inr f ↦ absurd (cc (sym m ∙ f.0)) ] in
+            let t = n.name.taken o.following o.left in
             let u = a.taken t.1 t.5 in (
               mapping (entry k u.0 no_entries),
               u.1,
-              subst (λ x. IsFront x (mapping (entry k u.0 no_entries)) u.1) (sym same) (map_front o.behind t.1 u.1 k u.0 (subst (λ x. IsFront o.behind x t.1) (text_of t.0 k t.3) t.2) u.2),
+              subst (λ x. IsFront x (mapping (entry k u.0 no_entries)) u.1) (sym same) (map_front o.following t.1 u.1 k u.0 (subst (λ x. IsFront o.following x t.1) (text_of t.0 k t.3) t.2) u.2),
               u.3,
               omega (arith, u.4, n.name.same.steps, i.steps),
               ap (λ (x : Reading). x.left) back ∙ u.5,

@@ -14,7 +14,7 @@ use Rattle.dagcbor_items.proofs.SliceReads.{whole_front}
 use Rattle.dagcbor_read.proofs.Progressing.{match_false}
 use Rattle.dagcbor_items.specs.TypedReads.{RefusesRead, HasFront, TakesFront, MayLack, Anything}
 use Rattle.dagcbor_read.specs.Values.{ReadsValue}
-use Rattle.dagcbor_read.specs.Whole.{IsWhole, HoldsNoValue, IsFirst, TakesFirst, BeginsWithNoValue, IsReadExcuse, OfWhole, IsForBehind, LacksMemoryIf}
+use Rattle.dagcbor_read.specs.Whole.{IsWhole, HoldsNoValue, IsFirst, TakesFirst, BeginsWithNoValue, IsReadExcuse, OfWhole, IsForAfter, LacksMemoryIf}
 use Rattle.dagcbor_items.specs.Shapes.{Shape}
 
 -- what holds of a refusal that `?` passes on
@@ -138,7 +138,7 @@ module _ {V : Type 0} (shape : Shape Tree V) (steps : ℕ) where
 
   -- why a whole input is not read
   abbrev NotWhole : {E : Type 0} → Option (List ℕ) → Bool → DecodeError E → Type 0
-  NotWhole left lends e = (IsReadExcuse e ⊎ IfSome left (HoldsNoValue shape steps)) × OfWhole e × IfSome left (λ b. IsForBehind shape steps b e) × LacksMemoryIf (shape.memory lends) e
+  NotWhole left lends e = (IsReadExcuse e ⊎ IfSome left (HoldsNoValue shape steps)) × OfWhole e × IfSome left (λ b. IsForAfter shape steps b e) × LacksMemoryIf (shape.memory lends) e
 
   module _ {E : Type 0} (left : Option (List ℕ)) (lends : Bool) where
     value_told : {old mid : Reading} (new : Reading) (v : V) (e : DecodeError E) (failed : Bool) → old.left ≡ left → TakesFront shape old v mid → TellsEnd mid (Err e) new failed → NotWhole left lends e
@@ -152,7 +152,7 @@ module _ {V : Type 0} (shape : Shape Tree V) (steps : ℕ) where
     value_end_refused start mid end v e at h k = value_told end.input v e end.failed at h.1 (match_false mid.failed _ _ h.0 k)
 
     -- if there is no front
-    no_front : (old : Reading) (e : DecodeError E) → old.left ≡ left → old.steps ≡ steps → (HasFront shape old → ⊥) → IfSome left (HoldsNoValue shape steps) × IfSome left (λ b. IsForBehind shape steps b e)
+    no_front : (old : Reading) (e : DecodeError E) → old.left ≡ left → old.steps ≡ steps → (HasFront shape old → ⊥) → IfSome left (HoldsNoValue shape steps) × IfSome left (λ b. IsForAfter shape steps b e)
     no_front old e at s n = (if_known left _ (λ b l v h. n (whole_of_front old b v (at ∙ l) s h)), if_known left _ (λ b l v rest h. absurd (n (first_front old b v rest (at ∙ l) s h))))
 
     -- no value was read, and not for lack of a loan

@@ -18,9 +18,9 @@ abbrev pub OwnShape : Type 0 → Type 0
 OwnShape O = List (List ℕ) → O → List ℕ → Option (Shape Tree O)
 
 -- the names after the first
-abbrev pub behind_first : List (List ℕ) → List (List ℕ)
-behind_first [] = []
-behind_first (name ∷ names) = names
+abbrev pub after_first : List (List ℕ) → List (List ℕ)
+after_first [] = []
+after_first (name ∷ names) = names
 
 -- a field that has the first name
 abbrev pub field_own : {V : Type 0} → Shape Tree V → OwnShape (Option V)
@@ -45,8 +45,8 @@ either_own a b None second = option_map (beside (λ x. (a, x))) second
 -- two groups, the names of the second after those of the first
 abbrev pub own_of_both : {A B : Type 0} → OwnShape A → (List (List ℕ) → List (List ℕ)) → OwnShape B
     → OwnShape (A × B)
-own_of_both first behind second names own k =
-    either_own own.0 own.1 (first names own.0 k) (second (behind names) own.1 k)
+own_of_both first following second names own k =
+    either_own own.0 own.1 (first names own.0 k) (second (following names) own.1 k)
 
 -- ---- a group before others
 
@@ -75,9 +75,9 @@ GoesTo held None own s others whole = IsLike (held own) others whole
 -- Whatever others come after the group, the value of a key goes to the group or to them.
 abbrev pub JoinsShape : (O : Type 0) (Held : Type 0 → Type 0) → HeldBefore Held O
     → ShapeBefore Held → (List (List ℕ) → List (List ℕ)) → OwnShape O → Type 1
-JoinsShape O Held held before behind own_shape = (S : Type 0)
+JoinsShape O Held held before following own_shape = (S : Type 0)
     → (others : List (List ℕ) → FieldShape S) (names : List (List ℕ)) (own : O) (s : S) (k : List ℕ)
-    → GoesTo (held S) (own_shape names own k) own s (value_of (others (behind names)) s k)
+    → GoesTo (held S) (own_shape names own k) own s (value_of (others (following names)) s k)
     (value_of (before S others names) (held S own s) k)
 
 -- the view of a group and others once all was read; `None` if something is missing

@@ -6,7 +6,7 @@ use Rattle.ipld_tree.specs.Tree.{Tree}
 use Rattle.dagcbor_items.specs.Shapes.{Shape}
 use Rattle.dagcbor_read.specs.Collections.{FieldShape, value_of, slot_of}
 use Rattle.dagcbor_read.specs.Structs.{places, finish_required, finish_optional, finish_omissible}
-use Rattle.dagcbor_read.specs.Joining.{OwnShape, behind_first, field_own, beside, either_own, own_of_both, IsLike, GoesTo, HeldBefore, ShapeBefore, JoinsShape, FinishBefore, JoinsFinish, both_there, finish_both}
+use Rattle.dagcbor_read.specs.Joining.{OwnShape, after_first, field_own, beside, either_own, own_of_both, IsLike, GoesTo, HeldBefore, ShapeBefore, JoinsShape, FinishBefore, JoinsFinish, both_there, finish_both}
 
 -- ---- a field
 
@@ -24,7 +24,7 @@ filled f None = refl
 filled f (Some v) = refl
 
 pub field_joins : {V : Type 0} (shape : Shape Tree V)
-    → JoinsShape (Option V) (λ S. Option V × S) (λ S o s. (o, s)) (λ S. places shape) behind_first
+    → JoinsShape (Option V) (λ S. Option V × S) (λ S o s. (o, s)) (λ S. places shape) after_first
     (field_own shape)
 field_joins shape S others [] own s k =
     record { view = λ t. refl; need = λ t. refl; loan = λ e. e; memory = λ lends e. e }
@@ -97,36 +97,36 @@ module _ {A B S H I : Type 0} (first : A → I → H) (second : B → S → I) w
   both o s = first o.0 (second o.1 s)
 
   goes_to_both : (a : A) (b : B) (s : S) (one : Option (Shape Tree A)) (two : Option (Shape Tree B))
-      (others : Shape Tree S) (behind : Shape Tree I) (whole : Shape Tree H)
-      → GoesTo first one a (second b s) behind whole → GoesTo second two b s others behind
+      (others : Shape Tree S) (following : Shape Tree I) (whole : Shape Tree H)
+      → GoesTo first one a (second b s) following whole → GoesTo second two b s others following
       → GoesTo both (either_own a b one two) (a, b) s others whole
-  goes_to_both a b s (Some one) two others behind whole h k =
+  goes_to_both a b s (Some one) two others following whole h k =
       like_beside (λ x. (x, b)) (λ o. both o s) one whole h
-  goes_to_both a b s None (Some two) others behind whole h k =
+  goes_to_both a b s None (Some two) others following whole h k =
       like_beside (λ x. (a, x)) (λ o. both o s) two whole
-      (like_twice (λ o. second o s) (first a) two behind whole k h)
-  goes_to_both a b s None None others behind whole h k =
-      like_twice (second b) (first a) others behind whole k h
+      (like_twice (λ o. second o s) (first a) two following whole k h)
+  goes_to_both a b s None None others following whole h k =
+      like_twice (second b) (first a) others following whole k h
 
 pub both_join : (A B : Type 0) (HeldA HeldB : Type 0 → Type 0)
     (held_a : HeldBefore HeldA A) (held_b : HeldBefore HeldB B)
     (shape_a : ShapeBefore HeldA) (shape_b : ShapeBefore HeldB)
-    (behind_a behind_b : List (List ℕ) → List (List ℕ)) (own_a : OwnShape A) (own_b : OwnShape B)
-    → JoinsShape A HeldA held_a shape_a behind_a own_a
-    → JoinsShape B HeldB held_b shape_b behind_b own_b
+    (after_a after_b : List (List ℕ) → List (List ℕ)) (own_a : OwnShape A) (own_b : OwnShape B)
+    → JoinsShape A HeldA held_a shape_a after_a own_a
+    → JoinsShape B HeldB held_b shape_b after_b own_b
     → JoinsShape (A × B) (λ S. HeldA (HeldB S))
     (λ S o s. held_a (HeldB S) o.0 (held_b S o.1 s))
     (λ S others. shape_a (HeldB S) (shape_b S others))
-    (λ names. behind_b (behind_a names)) (own_of_both own_a behind_a own_b)
-both_join A B HeldA HeldB held_a held_b shape_a shape_b behind_a behind_b own_a own_b joins_a joins_b S others names own s k =
+    (λ names. after_b (after_a names)) (own_of_both own_a after_a own_b)
+both_join A B HeldA HeldB held_a held_b shape_a shape_b after_a after_b own_a own_b joins_a joins_b S others names own s k =
     goes_to_both (held_a (HeldB S)) (held_b S) own.0 own.1 s
-    (own_a names own.0 k) (own_b (behind_a names) own.1 k)
-    (value_of (others (behind_b (behind_a names))) s k)
-    (value_of (shape_b S others (behind_a names)) (held_b S own.1 s) k)
+    (own_a names own.0 k) (own_b (after_a names) own.1 k)
+    (value_of (others (after_b (after_a names))) s k)
+    (value_of (shape_b S others (after_a names)) (held_b S own.1 s) k)
     (value_of (shape_a (HeldB S) (shape_b S others) names)
     (held_a (HeldB S) own.0 (held_b S own.1 s)) k)
     (joins_a (HeldB S) (shape_b S others) names own.0 (held_b S own.1 s) k)
-    (joins_b S others (behind_a names) own.1 s k)
+    (joins_b S others (after_a names) own.1 s k)
 
 both_shown : {V W X Y Z : Type 0} (first : V → Y → Z) (second : W → X → Y) (v : Option V)
     (w : Option W) (x : Option X)

@@ -37,8 +37,8 @@ IsReadExcuse OutOfMemory = ⊤
 IsReadExcuse _ = ⊥
 
 -- if a value is first, and bytes come after it, these are the possible causes
-abbrev pub IsForBehind : {V E : Type 0} → Shape Tree V → ℕ → List ℕ → DecodeError E → Type 0
-IsForBehind {V} shape steps b e = (v : V) (rest : List ℕ) → IsFirst shape steps b v rest
+abbrev pub IsForAfter : {V E : Type 0} → Shape Tree V → ℕ → List ℕ → DecodeError E → Type 0
+IsForAfter {V} shape steps b e = (v : V) (rest : List ℕ) → IsFirst shape steps b v rest
     → IsReadExcuse e ⊎ (e ≡ TrailingData)
 
 -- it is out of memory only if reading may take memory

@@ -1,6 +1,6 @@
 //! Reading values from DAG-CBOR.
 //!
-//! The examples here are taken from `src/tests/recipes.rt` of `tests_uses`. `agree` and `is_told`
+//! The examples here are taken from `src/tests/recipes.rt` of `tests_by_hand`. `agree` and `is_told`
 //! belong to the tests, and fail if the result differs:
 //!
 //! ```rust

@@ -3,7 +3,7 @@
 ghost use Rattle.std.specs.Prelude.{◌⊎◌, false, IfOk, IfErr, IfSome};
 ghost use Rattle.dagcbor_core.specs.Steps.{default_steps};
 ghost use Rattle.dagcbor_read.specs.Whole.{IsWhole, HoldsNoValue, TakesFirst, BeginsWithNoValue};
-ghost use Rattle.dagcbor_read.specs.Whole.{IsReadExcuse, OfWhole, IsForBehind, LacksMemoryIf};
+ghost use Rattle.dagcbor_read.specs.Whole.{IsReadExcuse, OfWhole, IsForAfter, LacksMemoryIf};
 ghost use Rattle.dagcbor_read.specs.Parts.{HandsWholeOn, HandsFirstOn};
 
 use crate::deserialize::DeserializeOwned;
@@ -29,8 +29,8 @@ pub fn from_reader<'de, T: DeserializeOwned<'de>, R: BufRead + Drop>(
         (λ v. IfSome (R.remaining reader) (λ b. IsWhole T.shape default_steps b (T.meaning v))) }
     ensures refused { IfErr result
         (λ e. IsReadExcuse e ⊎ IfSome (R.remaining reader) (HoldsNoValue T.shape default_steps)) }
-    ensures behind { IfErr result
-        (λ e. IfSome (R.remaining reader) (λ b. IsForBehind T.shape default_steps b e)) }
+    ensures following { IfErr result
+        (λ e. IfSome (R.remaining reader) (λ b. IsForAfter T.shape default_steps b e)) }
     ensures never { IfErr result OfWhole }
     ensures memory { IfErr result (LacksMemoryIf (T.shape.memory false)) }
     ensures answers { HandsWholeOn T.answers (R.remaining reader) default_steps false result }

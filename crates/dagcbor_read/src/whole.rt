@@ -4,7 +4,7 @@ ghost use Rattle.std.specs.Prelude.{◌≡◌, ◌⊎◌, ◌≤◌, true, false
 ghost use Rattle.dagcbor_core.specs.Steps.{default_steps};
 ghost use Rattle.dagcbor_core.specs.declared.error.DecodeError.TheVariants.{OutOfMemory};
 ghost use Rattle.dagcbor_read.specs.Whole.{IsWhole, HoldsNoValue, OfWhole};
-ghost use Rattle.dagcbor_read.specs.Whole.{IsForBehind, LacksMemoryIf};
+ghost use Rattle.dagcbor_read.specs.Whole.{IsForAfter, LacksMemoryIf};
 ghost use Rattle.dagcbor_read.specs.Parts.{HandsWholeOn};
 
 use crate::deserialize::{Deserialize, DeserializeOwned};
@@ -29,7 +29,7 @@ pub fn from_slice<'a, T: Deserialize<'a>>(
     ensures value { IfOk result (λ v. IsWhole T.shape default_steps bytes.now (T.meaning v)) }
     ensures refused { IfErr result
         (λ e. (e ≡ OutOfMemory) ⊎ HoldsNoValue T.shape default_steps bytes.now) }
-    ensures behind { IfErr result (IsForBehind T.shape default_steps bytes.now) }
+    ensures following { IfErr result (IsForAfter T.shape default_steps bytes.now) }
     ensures never { IfErr result OfWhole }
     ensures memory { IfErr result (LacksMemoryIf (T.shape.memory true)) }
     ensures lies { IfOk result (T.lies true) }
@@ -56,7 +56,7 @@ pub fn from_slice_with_depth<'a, T: Deserialize<'a>>(
     requires { steps ≤ 1024 }
     ensures value { IfOk result (λ v. IsWhole T.shape steps bytes.now (T.meaning v)) }
     ensures refused { IfErr result (λ e. (e ≡ OutOfMemory) ⊎ HoldsNoValue T.shape steps bytes.now) }
-    ensures behind { IfErr result (IsForBehind T.shape steps bytes.now) }
+    ensures following { IfErr result (IsForAfter T.shape steps bytes.now) }
     ensures never { IfErr result OfWhole }
     ensures memory { IfErr result (LacksMemoryIf (T.shape.memory true)) }
     ensures lies { IfOk result (T.lies true) }
@@ -79,7 +79,7 @@ pub fn from_slice_owned<'de, T: DeserializeOwned<'de>>(
     ensures value { IfOk result (λ v. IsWhole T.shape default_steps bytes.now (T.meaning v)) }
     ensures refused { IfErr result
         (λ e. (e ≡ OutOfMemory) ⊎ HoldsNoValue T.shape default_steps bytes.now) }
-    ensures behind { IfErr result (IsForBehind T.shape default_steps bytes.now) }
+    ensures following { IfErr result (IsForAfter T.shape default_steps bytes.now) }
     ensures never { IfErr result OfWhole }
     ensures memory { IfErr result (LacksMemoryIf (T.shape.memory false)) }
     ensures answers { HandsWholeOn T.answers (Some bytes.now) default_steps false result }

@@ -1,8 +1,8 @@
 //! The program `dagcbor`: tests lines of hexadecimal text against DAG-CBOR, or lists their links.
 #![tactic(auto)]
 
-use dagcbor_cli::{arguments, give_up};
-use dagcbor_lines::{OUT_OF_MEMORY, USAGE, run_command};
+use program_dagcbor::{OUT_OF_MEMORY, USAGE, run_command};
+use program_shared::{arguments, give_up};
 use std::io::{BufReader, ErrorKind};
 use std::process::ExitCode;
 

@@ -8,7 +8,7 @@ use Rattle.ipld_tree.proofs.Spelled.{spelled_is}
 use Rattle.ipld_tree.proofs.Unique.{major}
 use Rattle.dagcbor_write.specs.Gathering.{Grows}
 use Rattle.dagcbor_write.specs.Maps.{begins_text, spelled_key, HoldsKey}
-use Rattle.dagcbor_write.proofs.Spans.{behind}
+use Rattle.dagcbor_write.proofs.Spans.{following}
 
 nothing_more : (xs : List ℕ) → xs ++ [] ≡ xs
 nothing_more [] = refl
@@ -44,7 +44,7 @@ key_none (Some _) e = refl
 -- what begins as a text after the bytes is the spelling of a key
 module _ (o : Option Tree) (old new : List ℕ) (start : ℕ) (b : Bool) (at : start ≡ length old) (g : Grows o old new) (is : b ≡ begins_text (slice_range new start (length new))) where
   stands : spelled_tree o ≡ Some (drop start new)
-  stands = behind (spelled_tree o) old new g.0 ∙ ap (λ n. Some (drop n new)) (sym at)
+  stands = following (spelled_tree o) old new g.0 ∙ ap (λ n. Some (drop n new)) (sym at)
 
   begins : b ≡ begins_text (drop start new)
   begins = is ∙ ap begins_text (take_all (length new - start) (drop start new) (omega (arith, length-drop start new)))

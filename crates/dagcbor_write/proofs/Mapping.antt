@@ -184,9 +184,9 @@ in_order out ps es fs h o =
 
 -- ---- a row of pairs whose keys rise
 
-rises_behind : (last : List ℕ) (ps : List Pair) → KeysRise last ps → Rises ps
-rises_behind last [] r = tt
-rises_behind last (p ∷ ps) r = by (option_and_then key_of p.0) r
+rises_after : (last : List ℕ) (ps : List Pair) → KeysRise last ps → Rises ps
+rises_after last [] r = tt
+rises_after last (p ∷ ps) r = by (option_and_then key_of p.0) r
   where
     by : (o : Option (List ℕ)) → IsSomeAnd o (λ k. (key_cmp last k ≡ Less) × KeysRise k ps) → IsSomeAnd o (λ k. KeysRise k ps)
     by None r = absurd r
@@ -205,9 +205,9 @@ NamesRow ps None = spelled_pairs ps ≡ None
 NamesRow ps (Some names) = IsRow ps names
 
 -- these are the names of the pairs, and their trees, all after a name
-abbrev NamesBehind : List ℕ → List Pair → Option (List Named) → Type 0
-NamesBehind last ps None = spelled_pairs ps ≡ None
-NamesBehind last ps (Some names) = AllByRecursion (λ y. key_cmp last y ≡ Less) (keys_of names) × IsRow ps names
+abbrev NamesAfter : List ℕ → List Pair → Option (List Named) → Type 0
+NamesAfter last ps None = spelled_pairs ps ≡ None
+NamesAfter last ps (Some names) = AllByRecursion (λ y. key_cmp last y ≡ Less) (keys_of names) × IsRow ps names
 
 empty_row : IsRow [] []
 unfolding IsStrictlySortedBy spelled
@@ -224,30 +224,30 @@ module _ (k : List ℕ) (t : Tree) (ps : List Pair) where
   entry_no_text : spelled_pairs ps ≡ None → spelled_pairs (first ∷ ps) ≡ None
   entry_no_text e = ap (λ x. spelled (text k) ++? (spelled t ++? x)) e ∙ ap (λ x. spelled (text k) ++? x) (append_None (spelled t)) ∙ append_None (spelled (text k))
 
-  more_row : (names : List Named) → NamesBehind k ps (Some names) → IsRow (first ∷ ps) ((k, t) ∷ names)
+  more_row : (names : List Named) → NamesAfter k ps (Some names) → IsRow (first ∷ ps) ((k, t) ∷ names)
   unfolding IsStrictlySortedBy
   more_row names h = record { sorted = (h.0, h.1.sorted); text = entry_text (entries_of names) h.1.text; count = ap suc h.1.count; good = λ g. ((g.0, g.1), h.1.good g.2) }
 
-  row_with : (o : Option (List Named)) → NamesBehind k ps o → NamesRow (first ∷ ps) (option_map (λ more. (k, t) ∷ more) o)
+  row_with : (o : Option (List Named)) → NamesAfter k ps o → NamesRow (first ∷ ps) (option_map (λ more. (k, t) ∷ more) o)
   row_with None h = entry_no_text h
   row_with (Some names) h = more_row names h
 
-  behind_with : (last : List ℕ) → key_cmp last k ≡ Less → (o : Option (List Named)) → NamesBehind k ps o → NamesBehind last (first ∷ ps) (option_map (λ more. (k, t) ∷ more) o)
-  behind_with last r None h = entry_no_text h
-  behind_with last r (Some names) h = ((r, below_all last k (keys_of names) r h.0), more_row names h)
+  after_with : (last : List ℕ) → key_cmp last k ≡ Less → (o : Option (List Named)) → NamesAfter k ps o → NamesAfter last (first ∷ ps) (option_map (λ more. (k, t) ∷ more) o)
+  after_with last r None h = entry_no_text h
+  after_with last r (Some names) h = ((r, below_all last k (keys_of names) r h.0), more_row names h)
 
-names_behind : (last : List ℕ) (ps : List Pair) → KeysRise last ps → NamesBehind last ps (all_some (map pair_of ps))
-names_behind last [] r = (tt, empty_row)
-names_behind last ((None, v) ∷ ps) r = absurd r
-names_behind last ((Some (text k), None) ∷ ps) r = append_None (spelled (text k))
-names_behind last ((Some (text k), Some t) ∷ ps) r = behind_with k t ps last r.0 (all_some (map pair_of ps)) (names_behind k ps r.1)
-names_behind last ((Some _, v) ∷ ps) r = absurd r
+names_after : (last : List ℕ) (ps : List Pair) → KeysRise last ps → NamesAfter last ps (all_some (map pair_of ps))
+names_after last [] r = (tt, empty_row)
+names_after last ((None, v) ∷ ps) r = absurd r
+names_after last ((Some (text k), None) ∷ ps) r = append_None (spelled (text k))
+names_after last ((Some (text k), Some t) ∷ ps) r = after_with k t ps last r.0 (all_some (map pair_of ps)) (names_after k ps r.1)
+names_after last ((Some _, v) ∷ ps) r = absurd r
 
 names_of : (ps : List Pair) → Rises ps → NamesRow ps (all_some (map pair_of ps))
 names_of [] r = empty_row
 names_of ((None, v) ∷ ps) r = absurd r
 names_of ((Some (text k), None) ∷ ps) r = append_None (spelled (text k))
-names_of ((Some (text k), Some t) ∷ ps) r = row_with k t ps (all_some (map pair_of ps)) (names_behind k ps r)
+names_of ((Some (text k), Some t) ∷ ps) r = row_with k t ps (all_some (map pair_of ps)) (names_after k ps r)
 names_of ((Some _, v) ∷ ps) r = absurd r
 
 mapping_text : (names : List Named) → spelled (mapping (entries_of names)) ≡ spelled_head 5 (length names) ++? spelled_entries (entries_of names)
@@ -282,7 +282,7 @@ has_text (Some t) bs h = ap Some (sym h)
 -- the bytes written for a row whose keys rise are the map of its pairs
 pub rising_map : (ps : List Pair) (n : ℕ) (bs : List ℕ) → n ≡ length ps → AppendsTo [] bs (spelled_pairs ps) → ArePairs ps → KeysRise [] ps → (spelled_tree (entries_tree ps) ≡ spelled_head 5 n ++? Some bs) × IfSome (entries_tree ps) IsTree
 rising_map ps n bs count h g r =
-    let row = row_map ps n count (rises_behind [] ps r) in
+    let row = row_map ps n count (rises_after [] ps r) in
     (row.0 ∙ ap (λ x. spelled_head 5 n ++? x) (has_text (spelled_pairs ps) bs h), row.1 g)
 
 -- ---- a key that is there twice

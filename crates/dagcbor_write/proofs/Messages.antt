@@ -95,8 +95,8 @@ module _ {T E : Type 0} (ps : List Pair) (r : Result T (EncodeError E)) where
       by _ h = tt
 
   -- after a head that was written before the fields
-  pub behind_head : {Writer : Type 0} (head : Option (List ℕ)) (written : Writer → Written) (start : Written) (s t : Writer) → WroteAll head start (written t) → IfErr r (OnMessage (λ m. RefusesPairs ps m × (s ≡ t))) → IfErr r (OnMessage (λ m. RefusesPairs ps m × WroteAll head start (written s)))
-  behind_head {Writer} head written start s t w h =
+  pub after_head : {Writer : Type 0} (head : Option (List ℕ)) (written : Writer → Written) (start : Written) (s t : Writer) → WroteAll head start (written t) → IfErr r (OnMessage (λ m. RefusesPairs ps m × (s ≡ t))) → IfErr r (OnMessage (λ m. RefusesPairs ps m × WroteAll head start (written s)))
+  after_head {Writer} head written start s t w h =
       let P : Writer → Type 0 = λ x. WroteAll head start (written x) in
       message_tells (λ m. RefusesPairs ps m × (s ≡ t)) (λ m. RefusesPairs ps m × WroteAll head start (written s)) r (λ m k. (k.0, subst P (sym k.1) w)) h
 

@@ -24,9 +24,9 @@ same_bytes xs ys e = decided (bytes_eq xs ys) (xs ≡ ys) (bytes_eq-Decides xs y
     decided b P d e = d.0 e
 
 -- the text that was appended is after the bytes
-pub behind : (o : Option (List ℕ)) (old new : List ℕ) → AppendsTo old new o → o ≡ Some (drop (length old) new)
-behind None old new h = absurd h
-behind (Some t) old new h = ap Some (sym (drop-append_seam old t) ∙ ap (drop (length old)) (sym h))
+pub following : (o : Option (List ℕ)) (old new : List ℕ) → AppendsTo old new o → o ≡ Some (drop (length old) new)
+following None old new h = absurd h
+following (Some t) old new h = ap Some (sym (drop-append_seam old t) ∙ ap (drop (length old)) (sym h))
 
 pub range_stays : (bs more : List ℕ) (a b : ℕ) → a ≤ b → b ≤ length bs → slice_range (bs ++ more) a b ≡ slice_range bs a b
 range_stays bs more a b h k = ap (take (b - a)) (drop-append-le a bs more (omega arith)) ∙ take-append-le (b - a) (drop a bs) more (omega (arith, length-drop a bs))

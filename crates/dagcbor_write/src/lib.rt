@@ -1,6 +1,6 @@
 //! Writing values as DAG-CBOR.
 //!
-//! The examples here are taken from `src/tests/recipes.rt` of `tests_uses`. `agree` belongs to the
+//! The examples here are taken from `src/tests/recipes.rt` of `tests_by_hand`. `agree` belongs to the
 //! tests, and fails if the result differs:
 //!
 //! ```rust

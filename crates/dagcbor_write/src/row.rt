@@ -77,7 +77,7 @@ pub trait FieldRow: Drop {
 
     /// Returns this place, counted from the end of the fields, or `None` if a field is at this
     /// place.
-    fn behind(&self, place: usize) -> Option<usize>
+    fn following(&self, place: usize) -> Option<usize>
         ensures { MatchOption result (place < length (pairs self.now))
             (λ more. place ≡ more + length (pairs self.now)) };
 
@@ -127,7 +127,7 @@ impl FieldRow for () {
     }
 
     #[inline(always)]
-    fn behind(&self, place: usize) -> Option<usize> {
+    fn following(&self, place: usize) -> Option<usize> {
         Some(place)
     }
 
@@ -177,7 +177,7 @@ impl<T: Serialize> FieldRow for Field<'_, T> {
     }
 
     #[inline(always)]
-    fn behind(&self, place: usize) -> Option<usize> {
+    fn following(&self, place: usize) -> Option<usize> {
         if place > 0 { Some(place - 1) } else { None }
     }
 
@@ -251,10 +251,10 @@ impl<T: Serialize> FieldRow for Optional<'_, T> {
     }
 
     #[inline(always)]
-    fn behind(&self, place: usize) -> Option<usize> {
+    fn following(&self, place: usize) -> Option<usize> {
         let Optional(name, value) = self;
         match *value {
-            Some(value) => Field(*name, value).behind(place),
+            Some(value) => Field(*name, value).following(place),
             None => Some(place),
         }
     }
@@ -304,8 +304,8 @@ impl<A: FieldRow, B: FieldRow> FieldRow for (A, B) {
     }
 
     #[inline(always)]
-    fn behind(&self, place: usize) -> Option<usize> {
-        self.1.behind(self.0.behind(place)?)
+    fn following(&self, place: usize) -> Option<usize> {
+        self.1.following(self.0.following(place)?)
     }
 
     #[inline(always)]
@@ -315,7 +315,7 @@ impl<A: FieldRow, B: FieldRow> FieldRow for (A, B) {
         alloc: Global,
         ser: &mut Serializer<W>,
     ) -> WriteResult<(), W> {
-        match self.0.behind(place) {
+        match self.0.following(place) {
             Some(more) => self.1.write_field(more, alloc, ser),
             None => self.0.write_field(place, alloc, ser),
         }

@@ -1,6 +1,6 @@
 //! A source that reports how many of its bytes were taken.
 
-use dagstore_lines::Progress;
+use program_dagstore::Progress;
 use std::io;
 use std::io::{BufRead, Read, Write};
 

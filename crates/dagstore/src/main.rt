@@ -6,20 +6,20 @@ mod serving;
 
 use crate::counted::Counted;
 use crate::serving::run_serve;
-use block_lines::no_cid_line;
-use dagcbor_cli::{ToolError, arguments, give_up, write_all};
-use dagcbor_store::{BlockStore, FileFrom, FileStore, Wary};
-use dagstore_lines::{
+use ipld_tree::Cid;
+use program_dagstore::{
     Asking, Beginning, Command, Fault, HELP, NO_STORE, NOT_READ, NOT_WRITTEN, OUT_OF_MEMORY,
     Progress, USAGE, VERSION, Words, answer_add_roots, answer_at, answer_cat, answer_check,
     answer_collect, answer_count, answer_drop_roots, answer_export, answer_get, answer_has,
     answer_list, answer_ls, answer_put, answer_remove, answer_roots, answer_tree, check_put, end,
     import_blocks, tell_refusal, words_of,
 };
-use ipld_tree::Cid;
+use program_parts::no_cid_line;
+use program_shared::{ToolError, arguments, give_up, write_all};
 use std::fs;
 use std::io::{BufReader, BufWriter, IsTerminal, Read, Write};
 use std::process::ExitCode;
+use store_on_disk::{BlockStore, FileFrom, FileStore, Wary};
 
 type Store = BlockStore<FileStore<FileFrom<Wary>>>;
 
@@ -319,7 +319,7 @@ fn run_list<W: Write>(rt: &HostRuntime, store: &mut Store, errors: &mut W) -> u8
 }
 
 /// Opens the store, or makes it. Returns the status if it cannot.
-#[tactic(auto, using(dagcbor_store::proofs::Trusting::nothing_left))]
+#[tactic(auto, using(store_on_disk::proofs::Trusting::nothing_left))]
 fn open<W: Write>(rt: &HostRuntime, path: &str, errors: &mut W) -> Result<Store, u8> {
     match BlockStore::open(rt, path, Wary) {
         Ok(store) => Ok(store),

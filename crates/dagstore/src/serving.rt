@@ -1,13 +1,13 @@
 //! `serve`: requests on standard input, and the replies on standard output.
 
-use dagcbor_cli::{ToolError, give_up};
-use dagcbor_store::{BlockStore, FileFrom, FileStore, Wary};
-use dagstore_lines::{NOT_READ, OUT_OF_MEMORY, tell_tool};
-use std::fs;
-use std::io::{BufReader, BufWriter, Write};
-use store_serving::{
+use program_dagstore::{NOT_READ, OUT_OF_MEMORY, tell_tool};
+use program_serve::{
     Pause, answer_bad, answer_export, answer_import, answer_requests, refuse_file,
 };
+use program_shared::{ToolError, give_up};
+use std::fs;
+use std::io::{BufReader, BufWriter, Write};
+use store_on_disk::{BlockStore, FileFrom, FileStore, Wary};
 
 type Store = BlockStore<FileStore<FileFrom<Wary>>>;
 

@@ -47,18 +47,18 @@ before_push [] (suc i) c q e = absurd (cc e)
 before_push (x ∷ xs) zero c q e = inl e
 before_push (x ∷ xs) (suc i) c q e = before_push xs i c q e
 
-behind_push : (names : List CidParts) (i : ℕ) (c q : CidParts) → slice_get names i ≡ Some q → slice_get (names ++ c ∷ []) i ≡ Some q
-behind_push [] i c q e = absurd (cc e)
-behind_push (x ∷ xs) zero c q e = e
-behind_push (x ∷ xs) (suc i) c q e = behind_push xs i c q e
+after_push : (names : List CidParts) (i : ℕ) (c q : CidParts) → slice_get names i ≡ Some q → slice_get (names ++ c ∷ []) i ≡ Some q
+after_push [] i c q e = absurd (cc e)
+after_push (x ∷ xs) zero c q e = e
+after_push (x ∷ xs) (suc i) c q e = after_push xs i c q e
 
 before_at : (names : List CidParts) (o : Option ℕ) (c q : CidParts) → name_at (names ++ c ∷ []) o ≡ Some q → (name_at names o ≡ Some q) ⊎ (q ≡ c)
 before_at names None c q e = absurd (cc e)
 before_at names (Some i) c q e = before_push names i c q e
 
-behind_at : (names : List CidParts) (o : Option ℕ) (c q : CidParts) → name_at names o ≡ Some q → name_at (names ++ c ∷ []) o ≡ Some q
-behind_at names None c q e = absurd (cc e)
-behind_at names (Some i) c q e = behind_push names i c q e
+after_at : (names : List CidParts) (o : Option ℕ) (c q : CidParts) → name_at names o ≡ Some q → name_at (names ++ c ∷ []) o ≡ Some q
+after_at names None c q e = absurd (cc e)
+after_at names (Some i) c q e = after_push names i c q e
 
 -- ---- look-ups
 
@@ -177,7 +177,7 @@ row_joined c n old new valid is none names here elsewhere others = (valid, λ q.
         there (inr m) = inl (inr (moved q m))
 
         back : IsHeldName q old ⊎ (q ≡ c) → IsHeldName q new
-        back (inl (inl e)) = inl (at ∙ behind_at old.names.items (get nat_cmp old.places (front q.digest)) c q e)
+        back (inl (inl e)) = inl (at ∙ after_at old.names.items (get nat_cmp old.places (front q.digest)) c q e)
         back (inl (inr m)) = inr (stays q m)
         back (inr e) =
             let mine : n ≡ front q.digest = is ∙ ap (λ (x : CidParts). front x.digest) (sym e) in

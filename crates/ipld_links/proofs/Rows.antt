@@ -61,8 +61,8 @@ pub forms_push : (cs : List CidParts) (c : CidParts) → forms (cs ++ c ∷ []) 
 forms_push [] c = refl
 forms_push (x ∷ xs) c = ap (λ fs. cid_bytes x ∷ fs) (forms_push xs c)
 
-pub one_so_far : (codec : ℕ) (b : List ℕ) (found : List CidParts) (c : CidParts) (rest behind : List ℕ) (s : LinksSoFar codec b found rest) → ((more : List (List ℕ)) × (s.more ≡ cid_bytes c ∷ more) × HoldsLinksAs codec behind more) → length (cid_bytes c) + length behind < length rest → LinksSoFar codec b (found ++ c ∷ []) behind
-one_so_far codec b found c rest behind s (more, is, left) shorter =
+pub one_so_far : (codec : ℕ) (b : List ℕ) (found : List CidParts) (c : CidParts) (rest following : List ℕ) (s : LinksSoFar codec b found rest) → ((more : List (List ℕ)) × (s.more ≡ cid_bytes c ∷ more) × HoldsLinksAs codec following more) → length (cid_bytes c) + length following < length rest → LinksSoFar codec b (found ++ c ∷ []) following
+one_so_far codec b found c rest following s (more, is, left) shorter =
     let short = s.fits in
     record {
       links = s.links;
@@ -81,9 +81,9 @@ first_so_far codec b found rest s none = subst (HasLinks codec b) (sym (all_so_f
 
 -- ---- fields
 
-pub field_link_found : (b behind : List ℕ) (links : List (List ℕ)) (l : LinkParts) → ((row : List Field) → BeginsWithFields b row [] → (more : List Field) × BeginsWithFields behind more [] × (links_in row ≡ l ∷ links_in more)) → HoldsFieldLinks b links
-    → (more : List (List ℕ)) × (links ≡ cid_bytes l.hash ∷ more) × HoldsFieldLinks behind more
-field_link_found b behind links l found h =
+pub field_link_found : (b following : List ℕ) (links : List (List ℕ)) (l : LinkParts) → ((row : List Field) → BeginsWithFields b row [] → (more : List Field) × BeginsWithFields following more [] × (links_in row ≡ l ∷ links_in more)) → HoldsFieldLinks b links
+    → (more : List (List ℕ)) × (links ≡ cid_bytes l.hash ∷ more) × HoldsFieldLinks following more
+field_link_found b following links l found h =
     let k = found h.fields h.row in
     (map (λ l. cid_bytes l.hash) (links_in k.0), h.are ∙ ap (map (λ l. cid_bytes l.hash)) k.2, record { fields = k.0; row = k.1; are = refl })
 

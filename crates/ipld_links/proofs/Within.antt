@@ -197,10 +197,10 @@ Adding codec b held old now rest = (found : List CidParts) × LinksSoFar codec b
 pub none_adding : (codec : ℕ) (b : List ℕ) (held : HeldNames) (s : CidSet) → IsBlockOf codec b → Adding codec b held s s b
 none_adding codec b held s has = ([], none_so_far codec b has, (tt, added_none held s))
 
-pub one_adding : (codec : ℕ) (b rest behind : List ℕ) (c : CidParts) (held : HeldNames) (old mid new : CidSet) (a : Adding codec b held old mid rest) → ((more : List (List ℕ)) × (a.1.more ≡ cid_bytes c ∷ more) × HoldsLinksAs codec behind more) → length (cid_bytes c) + length behind < length rest → AddsAll (c ∷ []) held mid new → Adding codec b held old new behind
-one_adding codec b rest behind c held old mid new a next shorter added = (
+pub one_adding : (codec : ℕ) (b rest following : List ℕ) (c : CidParts) (held : HeldNames) (old mid new : CidSet) (a : Adding codec b held old mid rest) → ((more : List (List ℕ)) × (a.1.more ≡ cid_bytes c ∷ more) × HoldsLinksAs codec following more) → length (cid_bytes c) + length following < length rest → AddsAll (c ∷ []) held mid new → Adding codec b held old new following
+one_adding codec b rest following c held old mid new a next shorter added = (
   a.0 ++ c ∷ [],
-  one_so_far codec b a.0 c rest behind a.1 next shorter,
+  one_so_far codec b a.0 c rest following a.1 next shorter,
   both_added a.0 c held old mid new a.2 added,
 )
 
@@ -210,8 +210,8 @@ all_adding codec b rest held old new a none = (a.1.links, a.1.block, subst (λ l
 -- ---- measures
 
 -- a digest inside a block is shorter than the block
-pub digest_inside : (b rest behind : List ℕ) (c : CidParts) → length rest ≤ length b → length (cid_bytes c) + length behind < length rest → length c.digest < length b
-digest_inside b rest behind c fits shorter = omega (arith, digest_le, fits, shorter)
+pub digest_inside : (b rest following : List ℕ) (c : CidParts) → length rest ≤ length b → length (cid_bytes c) + length following < length rest → length c.digest < length b
+digest_inside b rest following c fits shorter = omega (arith, digest_le, fits, shorter)
   where
     digest_le : length c.digest ≤ length (cid_bytes c)
     digest_le = by (c.version == 0)

@@ -114,7 +114,7 @@ fn front_of(cid: &Cid) -> u64
     ensures { result ≡ front cid.now.digest }
 {
     match cid.digest().split_first_chunk::<8>() {
-        Some((first, _behind)) => u64::from_le_bytes(*first),
+        Some((first, _following)) => u64::from_le_bytes(*first),
         None => 0,
     }
 }

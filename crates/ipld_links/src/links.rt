@@ -20,7 +20,7 @@ fn next_field_link(fields: &[u8]) -> Option<(Cid, &[u8])>
         (λ p. length (cid_bytes p.0) + length p.1.now < length fields.now) }
 {
     match dag_pb::next_link(fields) {
-        Some((link, behind)) => Some((link.hash, behind)),
+        Some((link, following)) => Some((link.hash, following)),
         None => None,
     }
 }

@@ -72,10 +72,10 @@ pub cid_length : (b : List ℕ) → IsCid b → length b ≤ 86
 cid_length b (c, inl h, e) = omega (arith, ap length (e ∙ form_0 c h.0), h.3)
 cid_length b (c, inr h, e) =
     let whole = ap length (e ∙ form_1 c h.0) in
-    let behind_codec = length-append (varint c.codec) (varint c.hash_code ++ (varint (length c.digest) ++ c.digest)) in
-    let behind_hash_code = length-append (varint c.hash_code) (varint (length c.digest) ++ c.digest) in
-    let behind_length = length-append (varint (length c.digest)) c.digest in
-    omega (arith, whole, behind_codec, behind_hash_code, behind_length, varint_length c.codec, varint_length c.hash_code, one_byte (length c.digest) (omega (arith, h.3)), h.3)
+    let after_codec = length-append (varint c.codec) (varint c.hash_code ++ (varint (length c.digest) ++ c.digest)) in
+    let after_hash_code = length-append (varint c.hash_code) (varint (length c.digest) ++ c.digest) in
+    let after_length = length-append (varint (length c.digest)) c.digest in
+    omega (arith, whole, after_codec, after_hash_code, after_length, varint_length c.codec, varint_length c.hash_code, one_byte (length c.digest) (omega (arith, h.3)), h.3)
 
 pub cid_unique : (c d : CidParts) → AreCidParts c → AreCidParts d → cid_bytes c ≡ cid_bytes d → c ≡ d
 cid_unique c d (inl p) (inl q) e =

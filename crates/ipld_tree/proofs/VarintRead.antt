@@ -100,7 +100,7 @@ one_varint_byte_read bytes i number unit g bits r here is long byte low ok = by 
       unit_is = ap (λ u. u * 128) r.unit_is ∙ mul_comm (128 ^ i) 128 ∙ sym (pow-succ' 128 i) ∙ ap (λ j. 128 ^ j) (sym (add-one i));
       below = let part = mul-le bits unit 127 unit (omega arith) (omega arith) in let bound = r.below in omega (arith, part, bound);
       goes_on = λ m h. more m (positive m h);
-      only_so = λ n x y fits e. behind n x y (only n x y fits e);
+      only_so = λ n x y fits e. following n x y (only n x y fits e);
     }
       where
         positive : (m : ℕ) → IsRest (i + 1) m → 0 < m
@@ -114,8 +114,8 @@ one_varint_byte_read bytes i number unit g bits r here is long byte low ok = by 
             ∙ ap (λ gs. take i bytes ++ gs) (group_before (suc k) g bits m h (omega arith) (omega arith))
             ∙ one_taken bytes i g (varint_groups (suc k) m) here is
 
-        behind : (n : ℕ) (x y : List ℕ) → HasRest bytes i unit (suc k) n x y → HasRest bytes (i + 1) (unit * 128) k n x y
-        behind n x y q = split (first_group (suc k) q.rest g (drop (i + 1) bytes ++ x) y (ap (λ b. b ++ x) (sym (one_dropped bytes i g here is)) ∙ q.is))
+        following : (n : ℕ) (x y : List ℕ) → HasRest bytes i unit (suc k) n x y → HasRest bytes (i + 1) (unit * 128) k n x y
+        following n x y q = split (first_group (suc k) q.rest g (drop (i + 1) bytes ++ x) y (ap (λ b. b ++ x) (sym (one_dropped bytes i g here is)) ∙ q.is))
           where
             split : (q.rest < 128) × (g ≡ q.rest) ⊎ (128 ≤ q.rest) × (g ≡ 128 + q.rest % 128) × (drop (i + 1) bytes ++ x ≡ varint_groups (suc k) (q.rest / 128) ++ y) → HasRest bytes (i + 1) (unit * 128) k n x y
             split (inl h) = absurd (omega (arith, h))

@@ -150,7 +150,7 @@ impl TryFrom<&[u8]> for Cid {
     fn try_from(bytes: &[u8]) -> Result<Cid, CidError> {
         match bytes {
             [] => Err(CidError::Truncated),
-            [0x01, behind @ ..] => read_version_1(behind),
+            [0x01, following @ ..] => read_version_1(following),
             [0x12, 0x20, digest @ ..] if digest.len() == 32 => {
                 Ok(from_parts(0, DAG_PB, SHA2_256, digest))
             }
@@ -176,10 +176,10 @@ fn from_parts(version: u8, codec: u64, hash_code: u64, digest: &[u8]) -> Cid
 }
 
 /// Reads a CID of version 1 from the bytes after its first byte.
-fn read_version_1(behind: &[u8]) -> Result<Cid, CidError>
-    ensures { ReadsBinaryCid (0x01 ∷ behind.now) result }
+fn read_version_1(following: &[u8]) -> Result<Cid, CidError>
+    ensures { ReadsBinaryCid (0x01 ∷ following.now) result }
 {
-    let (codec, rest) = split_varint(behind)?;
+    let (codec, rest) = split_varint(following)?;
     let (hash_code, rest) = split_varint(rest)?;
     let (length, digest) = split_varint(rest)?;
     if length > LONGEST_DIGEST as u64 {

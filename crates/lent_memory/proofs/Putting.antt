@@ -24,8 +24,8 @@ length_put_at at bs old = by (ltb (length old) (at + length bs)) refl
     by false e = length_filled at bs old (ltb-false (length old) (at + length bs) (sym e))
 
 -- bytes put after those at the front
-pub put_behind : (bs more before : List ℕ) → length bs + length more ≤ length before → put_at (length bs) more (bs ++ drop (length bs) before) ≡ (bs ++ more) ++ drop (length (bs ++ more)) before
-put_behind bs more before h =
+pub put_after : (bs more before : List ℕ) → length bs + length more ≤ length before → put_at (length bs) more (bs ++ drop (length bs) before) ≡ (bs ++ more) ++ drop (length (bs ++ more)) before
+put_after bs more before h =
     let rest = drop (length bs) before in
     let l = length-append bs more in
     put_fits (length bs) more (bs ++ rest) (omega (arith, h, length-append bs rest, length-drop (length bs) before))
@@ -51,8 +51,8 @@ nothing_at_front old = ap (λ (x : Bool). if x then old else ([] ++ drop 0 old))
 placed : (at : ℕ) (bs old : List ℕ) → at + length bs ≤ length old → put_at at bs old ≡ (take at old ++ bs) ++ drop (length (take at old ++ bs)) old
 placed at bs old h =
     let front = take at old in
-    let behind : at + length bs ≡ length (front ++ bs) = omega (arith, h, length-append front bs, length-take-le at old (omega (arith, h))) in
-    put_fits at bs old h ∙ sym (append_assoc front bs (drop (at + length bs) old)) ∙ ap (λ n. (front ++ bs) ++ drop n old) behind
+    let following : at + length bs ≡ length (front ++ bs) = omega (arith, h, length-append front bs, length-take-le at old (omega (arith, h))) in
+    put_fits at bs old h ∙ sym (append_assoc front bs (drop (at + length bs) old)) ∙ ap (λ n. (front ++ bs) ++ drop n old) following
 
 -- bytes after others
 pub put_both : (at middle end : ℕ) (s r old now new : List ℕ) → at + length (s ++ r) ≤ length old → PutsAt s at old now middle → PutsAt r middle now new end → PutsAt (s ++ r) at old new end
@@ -65,30 +65,30 @@ put_both at middle end s r old now new h p q =
       q.1
           ∙ ap (λ n. put_at n r now) place
           ∙ ap (put_at (length (front ++ s)) r) (p.1 ∙ placed at s old first)
-          ∙ put_behind (front ++ s) r old (omega (arith, h, long, p.0, place))
+          ∙ put_after (front ++ s) r old (omega (arith, h, long, p.0, place))
           ∙ ap (λ z. z ++ drop (length z) old) (append_assoc front s r)
           ∙ sym (placed at (s ++ r) old h),
     )
 
 -- room for the bytes after them
-pub room_behind : (at middle : ℕ) (s r old now : List ℕ) → at + length (s ++ r) ≤ length old → PutsAt s at old now middle → middle + length r ≤ length now
-room_behind at middle s r old now h p = omega (arith, h, length-append s r, p.0, ap length p.1, length_put_at at s old)
+pub room_after : (at middle : ℕ) (s r old now : List ℕ) → at + length (s ++ r) ≤ length old → PutsAt s at old now middle → middle + length r ≤ length now
+room_after at middle s r old now h p = omega (arith, h, length-append s r, p.0, ap length p.1, length_put_at at s old)
 
 -- room for the first of them
 pub room_before : (at : ℕ) (s r old : List ℕ) → at + length (s ++ r) ≤ length old → at + length s ≤ length old
 room_before at s r old h = omega (arith, h, length-append s r)
 
 -- the tag of a link, its head, its zero and its CID
-pub link_put : (at tagged behind inside end n : ℕ) (cid old p q u new : List ℕ) → at + length (0xd8 ∷ 0x2a ∷ head 2 (suc n) ++ 0x00 ∷ cid) ≤ length old
-    → PutsAt (0xd8 ∷ 0x2a ∷ []) at old p tagged → PutsAt (head 2 (suc n)) tagged p q behind → PutsAt (0x00 ∷ []) behind q u inside → PutsAt cid inside u new end
+pub link_put : (at tagged following inside end n : ℕ) (cid old p q u new : List ℕ) → at + length (0xd8 ∷ 0x2a ∷ head 2 (suc n) ++ 0x00 ∷ cid) ≤ length old
+    → PutsAt (0xd8 ∷ 0x2a ∷ []) at old p tagged → PutsAt (head 2 (suc n)) tagged p q following → PutsAt (0x00 ∷ []) following q u inside → PutsAt cid inside u new end
     → PutsAt (0xd8 ∷ 0x2a ∷ head 2 (suc n) ++ 0x00 ∷ cid) at old new end
-link_put at tagged behind inside end n cid old p q u new h tag front zero_byte payload =
+link_put at tagged following inside end n cid old p q u new h tag front zero_byte payload =
     let long = length-append (head 2 (suc n)) (0x00 ∷ cid) in
     let first : length p ≡ length old = ap length tag.1 ∙ length_put_at at (0xd8 ∷ 0x2a ∷ []) old in
     let second : length q ≡ length p = ap length front.1 ∙ length_put_at tagged (head 2 (suc n)) p in
     put_both at tagged end (0xd8 ∷ 0x2a ∷ []) (head 2 (suc n) ++ 0x00 ∷ cid) old p new h tag
-    (put_both tagged behind end (head 2 (suc n)) (0x00 ∷ cid) p q new (omega (arith, h, long, first, tag.0)) front
-    (put_both behind inside end (0x00 ∷ []) cid q u new (omega (arith, h, long, first, second, tag.0, front.0)) zero_byte payload))
+    (put_both tagged following end (head 2 (suc n)) (0x00 ∷ cid) p q new (omega (arith, h, long, first, tag.0)) front
+    (put_both following inside end (0x00 ∷ []) cid q u new (omega (arith, h, long, first, second, tag.0, front.0)) zero_byte payload))
 
 -- nothing at a place
 pub none_put : (at : ℕ) (old : List ℕ) → at ≤ length old → PutsAt [] at old old at

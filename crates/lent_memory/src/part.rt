@@ -31,8 +31,8 @@ pub fn put_string(out: &mut [u8], at: usize, major: u8, bytes: &[u8]) -> usize
     requires room { at + length (string_form major bytes.now) ≤ length out.old }
     ensures { PutsAt (string_form major bytes.now) at out.old out.new result }
 {
-    let behind = put_head(out, at, major, bytes.len() as u64);
-    put(out, behind, bytes)
+    let following = put_head(out, at, major, bytes.len() as u64);
+    put(out, following, bytes)
 }
 
 /// Puts a link of this CID at the place, and returns the place after it.
@@ -42,7 +42,7 @@ pub fn put_link(out: &mut [u8], at: usize, cid: &[u8]) -> usize
     ensures { PutsAt (link_form cid.now) at out.old out.new result }
 {
     let tagged = put(out, at, &[0xd8, 0x2a]);
-    let behind = put_head(out, tagged, 2, 1 + cid.len() as u64);
-    let zero = put(out, behind, &[0]);
+    let following = put_head(out, tagged, 2, 1 + cid.len() as u64);
+    let zero = put(out, following, &[0]);
     put(out, zero, cid)
 }

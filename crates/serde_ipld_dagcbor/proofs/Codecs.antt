@@ -10,7 +10,7 @@ use Rattle.dagcbor_decode.specs.Blocks.{AreFirstLinks}
 use Rattle.dagcbor_decode.specs.Decode.{decode_first}
 use Rattle.dagcbor_decode.specs.Verdicts.{AnswersLinks}
 use Rattle.dagcbor_decode.proofs.FirstLinks.{links_not_refused}
-use Rattle.dagcbor_read.specs.Whole.{HoldsNoValue, IsReadExcuse, OfWhole, IsForBehind, LacksMemoryIf}
+use Rattle.dagcbor_read.specs.Whole.{HoldsNoValue, IsReadExcuse, OfWhole, IsForAfter, LacksMemoryIf}
 use Rattle.serde_ipld_dagcbor.specs.Codec.{IsReadAs, AreAlike, OfSlice}
 use Rattle.dagcbor_items.specs.Shapes.{Shape}
 use Rattle.dagcbor_core.specs.Steps.{default_steps}
@@ -39,11 +39,11 @@ module _ {V : Type 0} (shape : Shape Tree V) where
   slice_excused b f r = elim r [ inl k ↦ inl (subst IsReadExcuse (sym k) tt) | inr k ↦ inr (unread (Some b) k) ]
 
   -- if a value is first and bytes come after it, a refusal of the same content is for these bytes
-  pub alike_for_behind : {E F : Type 0} (b : List ℕ) (e : DecodeError E) (f : DecodeError F) → AreAlike e f → IsForBehind shape default_steps b e → IsForBehind shape default_steps b f
-  alike_for_behind b (Read x) f h k = absurd h
-  alike_for_behind b OutOfMemory f h k = λ v rest first. inl (subst IsReadExcuse (sym h) tt)
-  alike_for_behind b TrailingData f h k = λ v rest first. inr h
-  alike_for_behind b _ f h k = λ v rest first. elim (k v rest first) [ inl i ↦ absurd i | inr i ↦ absurd (cc i) ]
+  pub alike_for_after : {E F : Type 0} (b : List ℕ) (e : DecodeError E) (f : DecodeError F) → AreAlike e f → IsForAfter shape default_steps b e → IsForAfter shape default_steps b f
+  alike_for_after b (Read x) f h k = absurd h
+  alike_for_after b OutOfMemory f h k = λ v rest first. inl (subst IsReadExcuse (sym h) tt)
+  alike_for_after b TrailingData f h k = λ v rest first. inr h
+  alike_for_after b _ f h k = λ v rest first. elim (k v rest first) [ inl i ↦ absurd i | inr i ↦ absurd (cc i) ]
 
 -- a refusal of the same content is out of memory only if the first may be
 pub alike_in_memory : {E F : Type 0} (may : Bool) (e : DecodeError E) (f : DecodeError F) → AreAlike e f → LacksMemoryIf may e → LacksMemoryIf may f

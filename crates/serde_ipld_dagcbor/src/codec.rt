@@ -6,7 +6,7 @@ ghost use Rattle.ipld_tree.specs.Codecs.{Decodes, Encodes, EncodesAsVec, FindsLi
 ghost use Rattle.ipld_tree.specs.Tree.{Tree};
 ghost use Rattle.ipld_tree.specs.Spelling.{IsSpelling};
 ghost use Rattle.dagcbor_decode.specs.Blocks.{AreFirstLinks};
-ghost use Rattle.dagcbor_read.specs.Whole.{IsForBehind, LacksMemoryIf};
+ghost use Rattle.dagcbor_read.specs.Whole.{IsForAfter, LacksMemoryIf};
 ghost use Rattle.serde_ipld_dagcbor.specs.Codec.{IsReadAs, IsExcuse, DecodeRefused, EncodeRefused};
 ghost use Rattle.serde_ipld_dagcbor.specs.Codec.{EncodeToVecRefused, LinksNotFound};
 ghost use Rattle.serde_ipld_dagcbor.specs.Codec.{DecodeFromSliceRefused, IsDecodeIo, AreAlike};
@@ -97,9 +97,9 @@ impl<'de, T: DeserializeOwned<'de> + Serialize> Codec<'de, T> for DagCborCodec {
         ensures answers { Decodes IsSpelling (IsReadAs T.shape) T.meaning IsExcuse
             (R.remaining reader) result }
         ensures exact { DecodeRefused T.shape (R.remaining reader) result }
-        ensures behind { IfErr result
+        ensures following { IfErr result
             (IsDecodeIo (λ e. IfSome (R.remaining reader)
-            (λ b. IsForBehind T.shape default_steps b e))) }
+            (λ b. IsForAfter T.shape default_steps b e))) }
         ensures memory { IfErr result (IsDecodeIo (LacksMemoryIf (T.shape.memory false))) }
         ensures handed { HandsDecodedOn T.answers (R.remaining reader) result }
     {
@@ -113,7 +113,7 @@ impl<'de, T: DeserializeOwned<'de> + Serialize> Codec<'de, T> for DagCborCodec {
         ensures answers { Decodes IsSpelling (IsReadAs T.shape) T.meaning IsExcuse
             (Some bytes.now) result }
         ensures exact { DecodeFromSliceRefused T.shape bytes.now result }
-        ensures behind { IfErr result (IsDecodeIo (IsForBehind T.shape default_steps bytes.now)) }
+        ensures following { IfErr result (IsDecodeIo (IsForAfter T.shape default_steps bytes.now)) }
         ensures memory { IfErr result (IsDecodeIo (LacksMemoryIf (T.shape.memory false))) }
         ensures handed { HandsSliceDecodedOn T.answers bytes.now result }
     {

@@ -1,4 +1,4 @@
-//! Tests of `dagcbor_car` and `dagcbor_blocks`: CAR files, and the store that keeps them.
+//! Tests of `files_car` and `dagcbor_blocks`: CAR files, and the store that keeps them.
 #![tactic(auto)]
 
 #[cfg(test)]

@@ -3,7 +3,7 @@
 use crate::cases::{CASES, CHANGES};
 use atproto_events::{UndoError, undo_changes};
 use atproto_mst::Change;
-use car_blocks::{CarBlocks, read_blocks};
+use files_car::{CarBlocks, read_blocks};
 use ipld_tree::Cid;
 use std::alloc::Global;
 use std::test::Fail;

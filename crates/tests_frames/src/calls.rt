@@ -2,7 +2,7 @@
 
 use crate::answers::ANSWERS;
 use crate::cases::CASES;
-use event_calls::{place_frame, put_event};
+use abi_memory_calls::{place_frame, put_event};
 use std::alloc::Global;
 use std::test::Fail;
 

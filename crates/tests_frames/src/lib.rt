@@ -1,4 +1,4 @@
-//! Tests of `event_frames`, `verified_events`, `event_calls` and `event_lines`.
+//! Tests of `atproto_events`, `atproto_events`, `abi_memory_calls` and `program_events`.
 #![tactic(auto)]
 
 #[cfg(test)]

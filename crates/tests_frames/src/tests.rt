@@ -2,12 +2,11 @@
 
 use crate::cases::CASES;
 use crate::streams::STREAMS;
-use event_frames::{Frame, FrameError, read_frame};
-use event_lines::run_events;
+use atproto_events::{EventError, Frame, FrameError, Known, UndoError, read_frame, verify_event};
 use ipld_tree::Cid;
+use program_events::run_events;
 use std::alloc::Global;
 use std::test::Fail;
-use verified_events::{EventError, Known, UndoError, verify_event};
 
 /// Returns the word for the verdict.
 fn word(error: &EventError) -> &'static str {
@@ -84,10 +83,10 @@ fn frames_stand_one_after_the_other(rt: HostRuntime) -> Result<(), Fail> {
     }
     let mut rest = stream.as_slice();
     for row in CASES {
-        let Ok((_frame, behind)) = read_frame(alloc, rest) else {
+        let Ok((_frame, following)) = read_frame(alloc, rest) else {
             return Err(Fail::from(row.0));
         };
-        rest = behind;
+        rest = following;
     }
     if !rest.is_empty() {
         return Err(Fail::from("bytes are left"));

@@ -7,12 +7,12 @@ use atproto_mst::{
     MstEntry, MstError, NodeSink, Repo, RepoError, layer_of_key, mst_root, read_mst, read_repo,
     spell_unsigned, write_mst,
 };
-use cid_text::cid_from_text;
 use ipld_links::name_of_block;
 use ipld_tree::Cid;
 use std::alloc::{AllocError, Global};
 use std::collections::BTreeMap;
 use std::test::Fail;
+use text_cid::cid_from_text;
 
 /// Keys, and the layers that the specification and the reference's tests give.
 const LAYERS: &[(&[u8], u8)] = &[

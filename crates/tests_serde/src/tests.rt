@@ -8,12 +8,12 @@ mod note;
 mod records;
 mod refusals;
 
-use dagcbor_serde::{Link, from_slice, from_slice_owned, to_vec};
 use ipld_tree::Cid;
 use serde::{DeserializeOwned, Serialize};
 use std::alloc::Global;
 use std::test::Fail;
 use tests_shared::{agree, is_told};
+use types_serde::{Link, from_slice, from_slice_owned, to_vec};
 
 /// The CID of a raw block with an empty identity digest.
 const CID: &[u8] = b"\x01\x55\x00\x00";

@@ -1,4 +1,4 @@
-//! Types as a user of `dagcbor_serde` writes them, with only a derive.
+//! Types as a user of `types_serde` writes them, with only a derive.
 
 mod envelope;
 mod fields;

@@ -1,10 +1,10 @@
 //! Directories, and blocks that are not directories. Another program made the blocks and the CIDs.
 
 use dag_pb::next_link;
+use files_unix_fs::{check_directory, find_entry};
 use ipld_tree::Cid;
 use std::test::Fail;
 use tests_shared::{agree, is_told};
-use unix_fs::{check_directory, find_entry};
 
 /// The CIDs of a leaf, of an empty directory, and of another leaf.
 const LEAF: &[u8] =

@@ -1,9 +1,9 @@
 //! What blocks are. Another program made the blocks.
 
+use files_unix_fs::read_entity;
 use ipld_tree::Cid;
 use std::test::Fail;
 use tests_shared::is_told;
-use unix_fs::read_entity;
 
 /// Identity CIDs of the empty byte string: their codecs are raw, dag-pb and dag-cbor.
 const LEAF: &[u8] = b"\x01\x55\x00\x00";

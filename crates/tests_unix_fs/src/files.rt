@@ -1,11 +1,11 @@
 //! Files in one block and in many, and nodes that announce false sizes. Another program made the
 //! blocks and their CIDs.
 
+use files_unix_fs::{FileError, FileReader};
 use ipld_tree::Cid;
 use std::alloc::Global;
 use std::test::Fail;
 use tests_shared::{agree, is_told};
-use unix_fs::{FileError, FileReader};
 
 /// A file in one node: QmT78zSuBmuS4z925WZfrqQ1qHaJ56DQaTfyMUF7F8ff5o, as version 1.
 const WHOLE: (&[u8], &[u8]) = (

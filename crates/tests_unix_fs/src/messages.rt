@@ -1,8 +1,8 @@
 //! Messages. Their bytes and the answers were written by hand from the standard.
 
+use files_unix_fs::{next_size, read_unix_fs};
 use std::test::Fail;
 use tests_shared::{agree, is_told};
-use unix_fs::{next_size, read_unix_fs};
 
 /// Messages, and the answers for them.
 const ROWS: &[(&[u8], &str)] = &[

@@ -1,6 +1,6 @@
 use Rattle.std.proofs.Common.{rules, w32, subst, sym, ℤ}
 use Rattle.std.proofs.lemmas.Int.{to_z-of_z}
-use Rattle.dagcbor_calls.specs.Walks.{IsNextAnswer}
+use Rattle.abi_calls.specs.Walks.{IsNextAnswer}
 use Rattle.dagcbor_ffi.proofs.dagcbor_car_next.Goals as goal
 
 pub returns : goal.returns

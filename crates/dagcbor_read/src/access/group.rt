@@ -10,7 +10,7 @@ ghost use Rattle.dagcbor_read.specs.Collections.{slot_of};
 ghost use Rattle.dagcbor_read.specs.Deserializers.{DeState, de_state, Over};
 ghost use Rattle.dagcbor_read.specs.Joining.{OwnShape, HeldBefore, ShapeBefore, JoinsShape};
 ghost use Rattle.dagcbor_read.specs.Joining.{FinishBefore, JoinsFinish, ReadsOwnNamed};
-ghost use Rattle.dagcbor_read.specs.Joining.{behind_first, field_own, own_of_both, finish_both};
+ghost use Rattle.dagcbor_read.specs.Joining.{after_first, field_own, own_of_both, finish_both};
 ghost use Rattle.dagcbor_read.specs.JoiningLaws.{field_joins, required_finish, optional_finish};
 ghost use Rattle.dagcbor_read.specs.JoiningLaws.{omissible_finish, both_join, both_finish};
 ghost use Rattle.dagcbor_read.specs.Named.{ReadsNamedValue};
@@ -56,7 +56,7 @@ pub trait FieldGroup<'de>: Sized + Drop {
     ghost own_shape: { OwnShape OwnState };
 
     /// The names after the group's own.
-    ghost behind: { List (List ℕ) → List (List ℕ) };
+    ghost following: { List (List ℕ) → List (List ℕ) };
 
     /// What the group holds, wherever it is in memory.
     ghost OwnView: { Type 0 };
@@ -73,7 +73,7 @@ pub trait FieldGroup<'de>: Sized + Drop {
 
     ghost shape_before: { ShapeBefore Held };
 
-    ghost joins: { JoinsShape OwnState Held held shape_before behind own_shape };
+    ghost joins: { JoinsShape OwnState Held held shape_before following own_shape };
 
     /// The view of the group together with the view of the fields after it.
     ghost Shows: { Type 0 → Type 0 };
@@ -92,7 +92,7 @@ pub trait FieldGroup<'de>: Sized + Drop {
 
     /// Returns the names after the group's own.
     fn skip_names<'n, 'm>(names: &'n [&'m str]) -> &'n [&'m str]
-        ensures { texts result.now ≡ behind (texts names.now) };
+        ensures { texts result.now ≡ following (texts names.now) };
 
     /// Reads the value of the key, if the key belongs to the group. A refusal keeps what was read
     /// before.
@@ -142,7 +142,7 @@ pub trait FieldGroup<'de>: Sized + Drop {
 /// Returns the names after the first.
 #[inline(always)]
 fn skip_first<'n, 'm>(names: &'n [&'m str]) -> &'n [&'m str]
-    ensures { texts result.now ≡ behind_first (texts names.now) }
+    ensures { texts result.now ≡ after_first (texts names.now) }
 {
     let Some((_, others)) = names.split_first() else {
         return names;
@@ -251,7 +251,7 @@ impl<'de, T: Deserialize<'de>> FieldGroup<'de> for Required<T> {
 
     ghost own_shape = { field_own T.shape };
 
-    ghost behind = { behind_first };
+    ghost following = { after_first };
 
     ghost OwnView = { T.View };
 
@@ -327,7 +327,7 @@ impl<'de, T: Deserialize<'de>> FieldGroup<'de> for Option<T> {
 
     ghost own_shape = { field_own (option_of T.shape) };
 
-    ghost behind = { behind_first };
+    ghost following = { after_first };
 
     ghost OwnView = { Option T.View };
 
@@ -403,7 +403,7 @@ impl<'de, T: Deserialize<'de>> FieldGroup<'de> for Omissible<T> {
 
     ghost own_shape = { field_own T.shape };
 
-    ghost behind = { behind_first };
+    ghost following = { after_first };
 
     ghost OwnView = { Option T.View };
 
@@ -477,9 +477,9 @@ impl<'de, A: FieldGroup<'de>, B: FieldGroup<'de>> FieldGroup<'de> for (A, B) {
 
     ghost own_unread = { (A.own_unread, B.own_unread) };
 
-    ghost own_shape = { own_of_both A.own_shape A.behind B.own_shape };
+    ghost own_shape = { own_of_both A.own_shape A.following B.own_shape };
 
-    ghost behind = { λ names. B.behind (A.behind names) };
+    ghost following = { λ names. B.following (A.following names) };
 
     ghost OwnView = { A.OwnView × B.OwnView };
 
@@ -494,7 +494,7 @@ impl<'de, A: FieldGroup<'de>, B: FieldGroup<'de>> FieldGroup<'de> for (A, B) {
     ghost shape_before = { λ S others. A.shape_before (B.Held S) (B.shape_before S others) };
 
     ghost joins = { both_join A.OwnState B.OwnState A.Held B.Held A.held B.held A.shape_before
-        B.shape_before A.behind B.behind A.own_shape B.own_shape A.joins B.joins };
+        B.shape_before A.following B.following A.own_shape B.own_shape A.joins B.joins };
 
     ghost Shows = { λ W. A.Shows (B.Shows W) };
 

@@ -2,8 +2,8 @@
 //! not files.
 
 use crate::tests::sections::{CHANGED, EMPTY, HEADER, NUMBERS, SECTION, UNORDERED};
-use dagcbor_car::{CarCheck, CarReader};
 use dagcbor_heads::SliceReader;
+use files_car::{CarCheck, CarReader};
 use ipld_links::Verdict;
 use ipld_tree::Cid;
 use std::alloc::Global;

@@ -35,10 +35,10 @@ const OLD: &[u8] =
 
 /// Returns the CID of a section, whose length prefix has `length` bytes.
 fn name_in(section: &[u8], length: usize) -> Result<Cid, Fail> {
-    let Some(behind) = section.get(length..) else {
+    let Some(following) = section.get(length..) else {
         return Err(Fail::new("no length"));
     };
-    match behind.get(..36) {
+    match following.get(..36) {
         Some(name) => Ok(Cid::try_from(name)?),
         None => Err(Fail::new("too short")),
     }

@@ -2,8 +2,8 @@
 
 use crate::tests::files::cids_of;
 use crate::tests::sections::{EMPTY, NUMBERS};
-use dagcbor_car::{CarReader, CarWriter};
 use dagcbor_heads::{BufWriter, SliceReader};
+use files_car::{CarReader, CarWriter};
 use ipld_tree::Cid;
 use std::alloc::Global;
 use std::test::Fail;

@@ -2,7 +2,6 @@
 
 ghost use Rattle.std.specs.Prelude.{◌≤◌};
 
-use dagcbor_testing::Pieces;
 use serde_ipld_dagcbor::{
     BufWriter, DecodeError, Input, Read, SliceReader, Tally, is_at_end, is_indefinite, laws,
     peek_one, pull_head, pull_one, pull_payload, push_head,
@@ -12,6 +11,7 @@ use std::borrow::CowSlice;
 use std::mem::size_of;
 use std::test::Fail;
 use tests_shared::{agree, is_told};
+use tests_shared_reads::Pieces;
 
 /// Fails if a reader that shows `size` bytes a fill gives another head, or more.
 fn is_head(head: &[u8], size: usize, major: u8, argument: u64) -> Result<(), Fail> {

@@ -1,7 +1,7 @@
 //! Hostile bytes: bytes that are cut off are refused as such, whatever pieces they come in.
 
-use dagcbor_testing::beginnings_are_cut;
 use std::test::Fail;
+use tests_shared_reads::beginnings_are_cut;
 
 /// Spellings whose beginnings no other test reads.
 const SPELLINGS: &[&[u8]] = &[

@@ -1,6 +1,5 @@
 //! The state of a `Deserializer`, a `Serializer` and their devices between calls.
 
-use dagcbor_testing::{FaultyWriter, Pieces};
 use serde_ipld_dagcbor::{
     BufWriter, DecodeError, Deserializer, EncodeError, Message, Name, Serializer, SliceReader,
     Write,
@@ -10,6 +9,7 @@ use std::convert::Infallible;
 use std::fmt::Display;
 use std::test::Fail;
 use tests_shared::{agree, is_told};
+use tests_shared_reads::{FaultyWriter, Pieces};
 
 /// Reads an item and the end after it, twice, and returns the answers as text.
 fn twice(alloc: Global, bytes: &[u8]) -> Result<String, AllocError> {

@@ -3,7 +3,6 @@
 ghost use Rattle.std.specs.Prelude.{◌+◌, ◌≤◌, length, IfOk, List, Option, true};
 ghost use Rattle.serde_ipld_dagcbor.specs.Streams.{AreStreamItems, AreUpTo};
 
-use dagcbor_testing::Pieces;
 use serde_ipld_dagcbor::{
     DecodeError, Deserialize, Deserializer, IoReader, Ipld, Read, SliceReader, StreamDeserializer,
     from_slice, iter_from_reader, laws,
@@ -13,6 +12,7 @@ use std::convert::Infallible;
 use std::fmt::Debug;
 use std::test::Fail;
 use tests_shared::{Source, agree, is_told, joined};
+use tests_shared_reads::Pieces;
 
 /// Fails if anything else comes next, as text.
 fn comes<'de, T: Deserialize<'de> + Debug, R: Read>(
@@ -51,7 +51,7 @@ fn gives_texts(alloc: Global, bytes: &[u8], told: &[&str]) -> Result<(), Fail> {
 }
 
 #[test]
-fn texts_one_behind_the_other(rt: HostRuntime) -> Result<(), Fail> {
+fn texts_one_after_the_other(rt: HostRuntime) -> Result<(), Fail> {
     let told = &[r#"Some(Ok("foobar"))"#, r#"Some(Ok("baz"))"#];
     gives_texts(rt.alloc(), b"\x66foobar\x63baz", told)?;
     let refused = r#"Some(Err(Eof { name: "string", expect: Small(3) }))"#;

@@ -2,9 +2,9 @@
 //! whatever pieces its bytes come in.
 
 use crate::tests::streams::is_split;
-use dagcbor_testing::is_written_again;
 use std::alloc::{AllocError, Global};
 use std::test::Fail;
+use tests_shared_reads::is_written_again;
 
 /// Each is the spelling of a tree.
 const VECTORS: &[&[u8]] = &[

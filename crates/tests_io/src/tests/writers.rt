@@ -31,7 +31,7 @@ fn a_piece_goes_out_in_parts(rt: HostRuntime) -> Result<(), Fail> {
 }
 
 #[test]
-fn pieces_go_out_one_behind_the_other(rt: HostRuntime) -> Result<(), Fail> {
+fn pieces_go_out_one_after_the_other(rt: HostRuntime) -> Result<(), Fail> {
     let mut held = Vec::new(rt.alloc());
     let mut writer = IoRefWriter::new(&mut held);
     push_head(&mut writer, 4, 3)?;

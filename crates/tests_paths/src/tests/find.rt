@@ -2,7 +2,7 @@
 //! data.
 
 use dagcbor_decode::Kind;
-use dagcbor_paths::find_slice;
+use ipld_paths::find_slice;
 use std::test::Fail;
 use tests_shared::agree;
 

@@ -3,7 +3,7 @@
 //! specification.
 
 use crate::tests::resolve::{are_named, put};
-use dagcbor_resolve::{item_bytes, resolve, resolve_way};
+use ipld_paths::{item_bytes, resolve, resolve_way};
 use ipld_tree::Cid;
 use std::alloc::Global;
 use std::collections::BTreeMap;

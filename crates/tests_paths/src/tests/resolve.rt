@@ -1,7 +1,7 @@
 //! Paths over blocks. The rows and CIDs come from a separate program in Python, which walks over
 //! decoded blocks.
 
-use dagcbor_resolve::{resolve, resolve_way};
+use ipld_paths::{resolve, resolve_way};
 use ipld_tree::Cid;
 use std::alloc::Global;
 use std::collections::BTreeMap;

@@ -2,7 +2,7 @@
 
 use super::find::Place;
 use dagcbor_decode::Kind;
-use dagcbor_paths::find_segments;
+use ipld_paths::find_segments;
 use std::test::Fail;
 use tests_shared::agree;
 

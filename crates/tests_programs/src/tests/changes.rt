@@ -2,7 +2,7 @@
 //! made by another program.
 
 use crate::tests::records::{HEADER, NODES, file_of};
-use dagcar_lines::run_changes;
+use program_dagcar::run_changes;
 use std::alloc::Global;
 use std::test::Fail;
 use tests_shared::agree;

@@ -7,8 +7,8 @@ use crate::tests::records::{
     COMMIT, HEADER, LAST_MISSING, LAST_WORD, NO_ROOT, NO_ROOT_TOLD, NODES, RAW_RECORD, RECORD_TOLD,
     RECORDS, TURNED_ROOTS, TWO_ROOTS, file_of,
 };
-use commit_lines::{CommitAsked, commit_words_of};
-use named_lines::{run_commit, run_record_proof, run_records_json};
+use program_dagcar_files::{run_commit, run_record_proof, run_records_json};
+use program_records::{CommitAsked, commit_words_of};
 use std::alloc::Global;
 use std::test::Fail;
 use tests_shared::{agree, joined};

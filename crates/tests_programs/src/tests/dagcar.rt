@@ -1,6 +1,6 @@
 //! The lines, arguments and faults of `dagcar`. The expected lines are made by another program.
 
-use dagcar_lines::run_command;
+use program_dagcar::run_command;
 use std::alloc::Global;
 use std::io::{BufRead, Write};
 use std::test::Fail;

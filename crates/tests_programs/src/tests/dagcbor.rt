@@ -1,7 +1,7 @@
 //! The lines, arguments and faults of `dagcbor`.
 
 use crate::tests::dagcar::owned_words;
-use dagcbor_lines::{run_check, run_command, run_links};
+use program_dagcbor::{run_check, run_command, run_links};
 use std::alloc::Global;
 use std::io::ErrorKind;
 use std::test::Fail;

@@ -4,7 +4,7 @@
 use crate::tests::dagcar::owned_words;
 use crate::tests::found::Row;
 use crate::tests::paths::{FILE, ROWS};
-use named_lines::{path_words_of, run_asked, run_index};
+use program_dagcar_files::{path_words_of, run_asked, run_index};
 use std::alloc::Global;
 use std::test::Fail;
 use tests_shared::agree;

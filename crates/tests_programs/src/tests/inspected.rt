@@ -1,8 +1,8 @@
 //! `inspect`: the contents of files, in numbers. The expected lines are made by another program.
 
 use crate::tests::dagcar::{GOOD, MIXED, owned_words};
-use dagcar_lines::run_inspect;
-use inspect_lines::{Form, Index, inspection_of};
+use program_dagcar::run_inspect;
+use program_inspect::{Form, Index, inspection_of};
 use std::alloc::Global;
 use std::test::Fail;
 use tests_shared::{agree, joined};

@@ -3,9 +3,9 @@
 
 use crate::tests::dagcar::owned_words;
 use dagcbor_heads::IoReader;
-use held_lines::input_over;
-use named_lines::{run_filter, run_listed, run_merged};
-use section_lines::{By, Filter, Kept, filter_of, merge_of};
+use program_dagcar_files::{run_filter, run_listed, run_merged};
+use program_parts::input_over;
+use program_sections::{By, Filter, Kept, filter_of, merge_of};
 use std::alloc::Global;
 use std::test::Fail;
 use tests_shared::agree;

@@ -5,9 +5,9 @@ ghost use Rattle.std.specs.Prelude.{None};
 
 use crate::tests::dagcar::owned_words;
 use crate::tests::sections::{FILE, OF_LIST, OF_RAW, RAW_ROOTED};
-use dagcbor_cli::ToolError;
-use named_lines::run_split;
-use section_lines::{NewFiles, NotBegun, split_of};
+use program_dagcar_files::run_split;
+use program_sections::{NewFiles, NotBegun, split_of};
+use program_shared::ToolError;
 use std::alloc::Global;
 use std::test::Fail;
 use tests_shared::agree;

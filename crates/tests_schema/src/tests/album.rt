@@ -5,9 +5,9 @@ use crate::tests::blocks::{
     DEMO_TEXT_YEAR, DEMO_WAX, DEMO_WIDE_YEAR,
 };
 use crate::tests::written_again::each_is_written_again;
-use album_types::Album;
-use dagcbor_testing::{BLUE_TOLD, DEMO_TOLD, each_answers};
 use std::test::Fail;
+use tests_shared_reads::{BLUE_TOLD, DEMO_TOLD, each_answers};
+use types_album::Album;
 
 #[test]
 fn albums_are_written_again(rt: HostRuntime) -> Result<(), Fail> {

@@ -1,8 +1,8 @@
 //! The note that is made of a schema.
 
-use album_types::Note;
-use dagcbor_testing::note_goes_both_ways;
 use std::test::Fail;
+use tests_shared_reads::note_goes_both_ways;
+use types_album::Note;
 
 #[test]
 fn a_note_goes_both_ways(rt: HostRuntime) -> Result<(), Fail> {

@@ -5,11 +5,11 @@ use crate::tests::blocks::{
     COMMIT_UNSIGNED, NODE, NODE_NO_LEFT,
 };
 use crate::tests::written_again::each_is_written_again;
-use dagcbor_testing::each_answers;
-use repository_types::{Commit, Node, UnsignedCommit};
 use serde_ipld_dagcbor::{from_slice, to_vec};
 use std::test::Fail;
 use tests_shared::agree;
+use tests_shared_reads::each_answers;
+use types_repository::{Commit, Node, UnsignedCommit};
 
 #[test]
 fn blocks_are_written_again(rt: HostRuntime) -> Result<(), Fail> {

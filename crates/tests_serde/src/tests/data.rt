@@ -2,12 +2,12 @@
 
 use super::{CID, is_refused, is_written_again, link};
 use crate::types::Envelope;
-use dagcbor_serde::{Any, Link, from_slice_owned, to_vec};
 use ipld_tree::Cid;
 use std::alloc::Global;
 use std::collections::BTreeMap;
 use std::test::Fail;
 use tests_shared::{agree, nested};
+use types_serde::{Any, Link, from_slice_owned, to_vec};
 
 pub(super) const ENVELOPE: &[u8] =
     b"\xa5\x63cid\xd8\x2a\x45\x00\x01\x55\x00\x00\x63raw\x42\x09\x08\x64body\xa2\x61a\xa1\x61/\x41\x01\x62zz\x87\x01\x20\xf6\xf5\x41\xff\x61t\xa0\x64data\x82\xd8\x2a\x45\x00\x01\x55\x00\x00\x41x\x64link\xd8\x2a\x45\x00\x01\x55\x00\x00";

@@ -4,12 +4,12 @@
 use super::data::ENVELOPE;
 use super::link;
 use crate::types::Envelope;
-use dagcbor_serde::{
+use std::test::Fail;
+use tests_shared::{Source, agree, is_told};
+use types_serde::{
     DeviceError, Link, WriteError, block_from_reader, block_from_reader_once, from_reader,
     from_reader_once, to_vec, to_writer,
 };
-use std::test::Fail;
-use tests_shared::{Source, agree, is_told};
 
 #[test]
 fn nothing_of_a_refused_value_is_sent(rt: HostRuntime) -> Result<(), Fail> {

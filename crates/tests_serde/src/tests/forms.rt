@@ -7,7 +7,6 @@ use crate::types::{
     Adjacent, Either, Even, Flat, Level, Metres, Plain, Point, Renamed, Shape, Side, Tagged, Unit,
     Wrapper,
 };
-use dagcbor_serde::{Any, ByteBuf, from_slice_owned, to_vec};
 use ipld_tree::Ipld;
 use serde::DeserializeOwned;
 use std::alloc::Global;
@@ -15,6 +14,7 @@ use std::collections::{BTreeMap, BTreeSet};
 use std::fmt::Debug;
 use std::test::Fail;
 use tests_shared::{agree, is_told};
+use types_serde::{Any, ByteBuf, from_slice_owned, to_vec};
 
 #[test]
 fn types_of_std_have_one_form(rt: HostRuntime) -> Result<(), Fail> {

@@ -1,10 +1,10 @@
 //! A type that derives. The example in the README quotes lines of this test.
 
 use super::is_refused;
-use dagcbor_serde::{from_slice, to_vec};
 use serde::{Deserialize, Serialize};
 use std::test::Fail;
 use tests_shared::agree;
+use types_serde::{from_slice, to_vec};
 
 /// A year, and what was said in it.
 #[derive(Drop, Serialize, Deserialize)]

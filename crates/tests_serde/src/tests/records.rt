@@ -2,12 +2,12 @@
 
 use super::{is_refused, is_written_again};
 use crate::types::{Around, Beside, Item, Late, Post, Record, Shared};
-use dagcbor_serde::{Any, Rest, from_slice_lossless, from_slice_owned, to_vec};
 use ipld_tree::{Cid, Ipld};
 use std::alloc::Global;
 use std::collections::BTreeMap;
 use std::test::Fail;
 use tests_shared::{LINK, agree, is_told, joined};
+use types_serde::{Any, Rest, from_slice_lossless, from_slice_owned, to_vec};
 
 /// Blocks of posts, with the keys that are kept, in the order of their bytes.
 const POSTS: &[(&[u8], &str)] = &[

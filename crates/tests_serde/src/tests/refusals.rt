@@ -2,12 +2,12 @@
 
 use super::{is_read, is_refused, is_written_again};
 use crate::types::{Even, Plain, Point, Renamed, Shape, Twice};
-use dagcbor_serde::{ByteBuf, Link, to_vec};
 use serde::{DeserializeOwned, Serialize};
 use std::alloc::Global;
 use std::collections::BTreeMap;
 use std::test::Fail;
 use tests_shared::is_told;
+use types_serde::{ByteBuf, Link, to_vec};
 
 /// A map of one entry, whose key is that of a link in JSON.
 const SLASH: &[u8] = b"\xa1\x61\x2f\x44\x01\x55\x00\x00";

@@ -1,8 +1,8 @@
 //! Structs: one for each form that a derive supports, as docs/TYPES.md lists them.
 
 use crate::types::Tagged;
-use dagcbor_serde::Any;
 use serde::{Deserialize, Serialize};
+use types_serde::Any;
 
 #[derive(Drop, Serialize, Deserialize)]
 pub struct Unit;

@@ -1,8 +1,8 @@
 //! Records whose unknown fields are kept.
 
 use crate::types::{Plain, Tagged};
-use dagcbor_serde::{Any, Rest};
 use serde::{Deserialize, Serialize};
+use types_serde::{Any, Rest};
 
 /// A post of the AT Protocol. Fields of its record that have no name here are kept.
 #[derive(Drop, Serialize, Deserialize)]

@@ -1,8 +1,8 @@
 //! Enums: one for each way to tell variants apart, as docs/TYPES.md lists them.
 
 use crate::types::Plain;
-use dagcbor_serde::{ByteBuf, Link};
 use serde::{Deserialize, Serialize};
+use types_serde::{ByteBuf, Link};
 
 /// Each kind of variant, with other names.
 #[derive(Drop, Serialize, Deserialize)]

@@ -11,7 +11,6 @@ mod second;
 mod tagged;
 mod variant_fields;
 
-use dagcbor_testing::answers;
 use data_enum::DataEnum;
 use enum_struct::{Enum, EnumStruct};
 use kinded::Kinded;
@@ -25,6 +24,7 @@ use std::alloc::Global;
 use std::test::Fail;
 use tagged::CidInInternallyTaggedEnum;
 use tests_shared::{LINK, agree, is_told, joined, writes};
+use tests_shared_reads::answers;
 
 /// A type by hand.
 enum Type {

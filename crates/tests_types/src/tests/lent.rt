@@ -5,13 +5,13 @@ ghost use Rattle.std.specs.Prelude.{false, IfOk, IfErr};
 ghost use Rattle.std.specs.Cow.{IsBorrowedStr};
 ghost use Rattle.serde_ipld_dagcbor.specs.Whole.{LacksMemoryIf};
 
-use dagcbor_testing::{Pieces, tells};
 use serde_ipld_dagcbor::{ByteSlice, DecodeError, Deserialize, Deserializer, IoReader, from_slice};
 use std::alloc::Global;
 use std::borrow::CowStr;
 use std::convert::Infallible;
 use std::test::Fail;
 use tests_shared::{Source, agree, is_told};
+use tests_shared_reads::{Pieces, tells};
 
 /// Reads a number, a truth value and a lent text. It takes no memory.
 fn entry(alloc: Global, bytes: &[u8]) -> Result<(u64, bool, &str), DecodeError<Infallible>>

@@ -1,8 +1,8 @@
 //! Links, read and written.
 
-use dagcbor_testing::{beginnings_are_cut, is_written_again};
 use std::test::Fail;
 use tests_shared::{LINK, THREE_LINKS, agree, joined};
+use tests_shared_reads::{beginnings_are_cut, is_written_again};
 
 /// The parts of a block with links, and its length.
 const BLOCKS: &[(&[&[u8]], usize)] = &[

@@ -1,11 +1,11 @@
 //! Values of the library's types, read from each kind of reader.
 
-use dagcbor_testing::answers;
 use serde_ipld_dagcbor::{Bytes, Cid, IgnoredAny, Ipld, from_slice};
 use std::alloc::Global;
 use std::collections::{BTreeMap, HashMap};
 use std::test::Fail;
 use tests_shared::{LINK, agree};
+use tests_shared_reads::answers;
 
 /// A type of the library.
 enum Type {

@@ -1,11 +1,11 @@
 //! What is rejected, and with which error, from each kind of reader: also if the bytes are skipped,
 //! or only validated.
 
-use dagcbor_testing::{Pieces, each_is_refused, is_refused};
 use serde_ipld_dagcbor::Deserializer;
 use std::alloc::Global;
 use std::test::Fail;
 use tests_shared::{LINK, is_told, joined};
+use tests_shared_reads::{Pieces, each_is_refused, is_refused};
 
 const LEAVES: &[(&[u8], &str)] = &[
     (b"\x18\x17", r#"NonMinimal { name: "u64", found: 24 }"#),

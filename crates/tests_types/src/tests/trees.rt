@@ -1,9 +1,9 @@
 //! Trees, read and written: the examples of the format.
 
-use dagcbor_testing::{beginnings_are_cut, is_refused, is_written_again, tells};
 use serde_ipld_dagcbor::{IgnoredAny, Ipld, check_slice, from_slice};
 use std::test::Fail;
 use tests_shared::{agree, is_told, joined, nested};
+use tests_shared_reads::{beginnings_are_cut, is_refused, is_written_again, tells};
 
 const TREES: &[(&[u8], &str)] = &[
     (b"\x17", "Ok(Integer(23))"),

@@ -41,10 +41,10 @@ fn a_map(alloc: Global, ser: &mut Serializer<BufWriter>) -> Answer {
     map.serialize_entry(&"b", &2u8)?;
     let before = map.has_key();
     map.serialize_key(&'a')?;
-    let behind = map.has_key() && !map.is_complete();
+    let following = map.has_key() && !map.is_complete();
     map.serialize_value(&1u8)?;
     map.end()?;
-    holds(!before && behind)
+    holds(!before && following)
 }
 
 fn a_list(alloc: Global, ser: &mut Serializer<BufWriter>) -> Answer {

@@ -5,7 +5,7 @@ use Rattle.ipld_links.specs.Reaching.{stored_in}
 use Rattle.atproto_mst.specs.Nodes.{IsNodeAt, row_told, node_told}
 use Rattle.atproto_events.specs.Pieces.{pieces, OpensBelow}
 use Rattle.atproto_events.specs.Opening.{StopsBelow}
-use Rattle.atproto_events.proofs.Opening.{GoesOn, StopsOn, goes_begins, goes_next, goes_end, stops_begins, stops_next, stops_at_row, stops_behind_row, stops_left, still_held, rows_at, name_stops, empty_stops, no_layer_stops, no_layer, kept_stops, node_stops, link_opened, link_kept, no_rows_left}
+use Rattle.atproto_events.proofs.Opening.{GoesOn, StopsOn, goes_begins, goes_next, goes_end, stops_begins, stops_next, stops_at_row, stops_after_row, stops_left, still_held, rows_at, name_stops, empty_stops, no_layer_stops, no_layer, kept_stops, node_stops, link_opened, link_kept, no_rows_left}
 use Rattle.atproto_events.proofs.open.+open.Goals as goal
 
 -- ---- a link
@@ -112,7 +112,7 @@ open_node-returns-in_err-open_link-2-clause-refused t c =
     let row = c.row-item.result in
     let old = pieces c.args.found.now.items in
     let now = pieces c.loop-row.found.items in
-    rw (p.1, p.2) (stops_behind_row F S c.args.layer (node_told c.args.node.now) old c.loop-row.key.items c.push_row.new.key.items (row_told row) (map row_told (drop (at + 1) held)) now (pieces c.push_row.new.found.items)
+    rw (p.1, p.2) (stops_after_row F S c.args.layer (node_told c.args.node.now) old c.loop-row.key.items c.push_row.new.key.items (row_told row) (map row_told (drop (at + 1) held)) now (pieces c.push_row.new.found.items)
     c.in_err-open_link-2.field-0.0 c.in_ok-push_row.ensures.key c.in_ok-push_row.ensures.pushed c.in_err-open_link-2.ensures.refused
     (subst (λ x. StopsOn F S c.args.layer (node_told c.args.node.now) old now c.loop-row.key.items x) (rows_at held at row c.loop-row-test.true (sym c.row-item.is)) c.loop-row.invariant.stops))
 

@@ -73,27 +73,27 @@ rows_of-loop-top-init t c = record { tops = c.requires.tops; passed = ([], refl)
 
 pub rows_of-subtree_of-requires : goal.rows_of-subtree_of-requires
 rows_of-subtree_of-requires t c =
-    (omega (arith, c.decreases), subst (AreLower c.args.layer) (sym c.split_lower.ensures.lower) (lower_are_lower c.args.layer (pieces c.in-Some.behind.now)))
+    (omega (arith, c.decreases), subst (AreLower c.args.layer) (sym c.split_lower.ensures.lower) (lower_are_lower c.args.layer (pieces c.in-Some.following.now)))
 
 pub rows_of-loop-top-preserved : goal.rows_of-loop-top-preserved
 rows_of-loop-top-preserved t c =
     let split = ap pieces c.in-Some.ensures.cases.0 in
     let top = piece_of c.in-Some.top.now in
-    let behind = pieces c.in-Some.behind.now in
+    let following = pieces c.in-Some.following.now in
     let key = c.deref-previous.result.now in
     let all = pieces c.args.all.now in
     let below = pieces c.split_lower.result.0.now in
     let next = pieces c.split_lower.result.1.now in
     let done = c.loop-top.invariant.passed.0 in
-    let parts = runs_whole c.args.layer behind ∙ ap (λ x. x ++ upper_pieces c.args.layer behind) (sym c.split_lower.ensures.lower) ∙ ap (λ x. below ++ x) (sym c.split_lower.ensures.rest) in
+    let parts = runs_whole c.args.layer following ∙ ap (λ x. x ++ upper_pieces c.args.layer following) (sym c.split_lower.ensures.lower) ∙ ap (λ x. below ++ x) (sym c.split_lower.ensures.rest) in
     record {
-      tops = subst (λ x. lower_pieces c.args.layer x ≡ []) (sym c.split_lower.ensures.rest) (upper_tops c.args.layer behind);
+      tops = subst (λ x. lower_pieces c.args.layer x ≡ []) (sym c.split_lower.ensures.rest) (upper_tops c.args.layer following);
       passed = (
         (done ++ (top ∷ [])) ++ below,
-        whole_rest all done top behind below next (c.loop-top.invariant.passed.1 ∙ ap (λ x. done ++ x) split) parts ∙ sym (append_assoc (done ++ (top ∷ [])) below next),
+        whole_rest all done top following below next (c.loop-top.invariant.passed.1 ∙ ap (λ x. done ++ x) split) parts ∙ sym (append_assoc (done ++ (top ∷ [])) below next),
       );
       rows = subst (λ rs. RowsGoOn c.args.layer all key next rs) (sym (c.push_reserved.ensures.items ∙ ap (λ rs. rs ++ (c.in_ok-row.row ∷ [])) c.in_ok-reserve.ensures.items))
-          (rows_next c.args.layer all top behind below next key c.loop-top.previous.now c.in_ok-after.after c.loop-top.rows.items c.in_ok-row.row
+          (rows_next c.args.layer all top following below next key c.loop-top.previous.now c.in_ok-after.after c.loop-top.rows.items c.in_ok-row.row
           (subst (λ x. lower_pieces c.args.layer x ≡ []) split c.loop-top.invariant.tops) (ap (option_map (λ k. k.items)) c.in-Some-key.is ∙ ap Some (sym c.deref-previous.ensures.value))
           c.split_lower.ensures.lower c.split_lower.ensures.rest c.in_ok-after.ensures.named
           (c.in_ok-row.ensures ∙ ap (λ k. entry_tree c.loop-top.previous.now (leaf_of (k, c.in-Some.top.now.cid)) c.in_ok-after.after) (c.deref.ensures.value ∙ sym c.deref-previous.ensures.value))
@@ -110,22 +110,22 @@ rows_of-returns-in_err-after-clause-refused t c =
     let p = err_from_is_err_and c.from_residual-in_err-after.result c.from_residual-in_err-after.ensures.1 in
     let split = ap pieces c.in-Some.ensures.cases.0 in
     let top = piece_of c.in-Some.top.now in
-    let behind = pieces c.in-Some.behind.now in
+    let following = pieces c.in-Some.following.now in
     let all = pieces c.args.all.now in
     let below = pieces c.split_lower.result.0.now in
     let done = c.loop-top.invariant.passed.0 in
-    let parts = runs_whole c.args.layer behind ∙ ap (λ x. x ++ upper_pieces c.args.layer behind) (sym c.split_lower.ensures.lower) in
-    rw (p.1, p.2) (inl (fault_more (done ++ (top ∷ [])) below (upper_pieces c.args.layer behind) all c.in_err-after.field-0.0
-    (whole_rest all done top behind below (upper_pieces c.args.layer behind) (c.loop-top.invariant.passed.1 ∙ ap (λ x. done ++ x) split) parts) c.in_err-after.ensures.refused))
+    let parts = runs_whole c.args.layer following ∙ ap (λ x. x ++ upper_pieces c.args.layer following) (sym c.split_lower.ensures.lower) in
+    rw (p.1, p.2) (inl (fault_more (done ++ (top ∷ [])) below (upper_pieces c.args.layer following) all c.in_err-after.field-0.0
+    (whole_rest all done top following below (upper_pieces c.args.layer following) (c.loop-top.invariant.passed.1 ∙ ap (λ x. done ++ x) split) parts) c.in_err-after.ensures.refused))
 
 pub rows_of-returns-in_default-key-clause-refused : goal.rows_of-returns-in_default-key-clause-refused
 rows_of-returns-in_default-key-clause-refused t c =
     let split = ap pieces c.in-Some.ensures.cases.0 in
     let top = piece_of c.in-Some.top.now in
-    let behind = pieces c.in-Some.behind.now in
+    let following = pieces c.in-Some.following.now in
     let all = pieces c.args.all.now in
     let done = c.loop-top.invariant.passed.0 in
     let whole = c.loop-top.invariant.passed.1 ∙ ap (λ x. done ++ x) split in
-    let is = placed_top c.args.layer top behind (is_top c.args.layer top behind (subst (λ x. lower_pieces c.args.layer x ≡ []) split c.loop-top.invariant.tops))
-    (first_lower (suc c.args.layer) all done top behind c.requires.within whole) (ap (option_map (λ k. k.items)) c.in_default-key.is) in
-    met_subtree c.args.layer all done behind top.cid c.requires.within (whole ∙ ap (λ p. done ++ (p ∷ behind)) is)
+    let is = placed_top c.args.layer top following (is_top c.args.layer top following (subst (λ x. lower_pieces c.args.layer x ≡ []) split c.loop-top.invariant.tops))
+    (first_lower (suc c.args.layer) all done top following c.requires.within whole) (ap (option_map (λ k. k.items)) c.in_default-key.is) in
+    met_subtree c.args.layer all done following top.cid c.requires.within (whole ∙ ap (λ p. done ++ (p ∷ following)) is)

@@ -1,5 +1,5 @@
 use Rattle.std.proofs.Common.{◌≡◌, ◌+◌, ◌-◌, ◌*◌, ◌≤◌, List, [], ◌++◌, map, length, drop}
-use Rattle.dagcbor_car.specs.Car.{Section}
+use Rattle.files_car.specs.Car.{Section}
 use Rattle.atproto_mst.specs.Trees.{lower_run, entry_trees, subtree, subtree_nodes, nodes_between}
 use Rattle.atproto_mst.specs.Nodes.{tree_of_row, row_told}
 use Rattle.atproto_mst.specs.Placed.{all_told}

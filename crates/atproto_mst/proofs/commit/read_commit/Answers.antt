@@ -8,5 +8,5 @@ returns-in-Ok c = commit_read c.args.block.now c.in-Ok.commit c.in-Ok.ensures.va
 pub returns-in_default : goal.returns-in_default
 returns-in_default c = elim c.in-Err.ensures.refused [
   | inl memory ↦ absurd (c.in_default.not-OutOfMemory memory)
-  | inr none ↦ (none, c.in_default.not-OutOfMemory, c.in-Err.ensures.never, c.in-Err.ensures.behind)
+  | inr none ↦ (none, c.in_default.not-OutOfMemory, c.in-Err.ensures.never, c.in-Err.ensures.following)
 ]

@@ -3,7 +3,7 @@ use Rattle.std.specs.declared.cmp.Ordering.TheVariants.{Less, Equal, Greater}
 use Rattle.atproto_mst.specs.Entries.{entries}
 use Rattle.atproto_mst.specs.Changes.{changes, AreChanges}
 use Rattle.atproto_mst.specs.Merging.{removed, added}
-use Rattle.atproto_mst.proofs.Merging.{diff_of, order_of, merged_less, merged_equal, merged_greater, merged_end, others_less, others_greater, other_records, same_behind, both_end, rest_all, none_left, are_changes}
+use Rattle.atproto_mst.proofs.Merging.{diff_of, order_of, merged_less, merged_equal, merged_greater, merged_end, others_less, others_greater, other_records, same_after, both_end, rest_all, none_left, are_changes}
 use Rattle.atproto_mst.proofs.Refusals.{err_so}
 use Rattle.atproto_mst.proofs.diffs.diff_entries.Goals as goal
 use Rattle.atproto_mst.proofs.diffs.diff_entries.Goals.{then-loop-at-test+else-next-new, else-loop-at-test}
@@ -44,7 +44,7 @@ loop-at-preserved-in-Equal c =
     let e = c.index-old-at.result in
     let f = c.index-new-next.result in
     record {
-      same = same_behind c.args.old.now c.args.new.now c.loop-at.at c.loop-at.next e f c.index-old-at.is c.index-new-next.is (omega (arith, c.loop-at-test.true)) (omega (arith, c.if-next-new.true)) c.loop-at.invariant.same;
+      same = same_after c.args.old.now c.args.new.now c.loop-at.at c.loop-at.next e f c.index-old-at.is c.index-new-next.is (omega (arith, c.loop-at-test.true)) (omega (arith, c.if-next-new.true)) c.loop-at.invariant.same;
       at_bound = omega (arith, c.loop-at-test.true);
       next_bound = omega (arith, c.if-next-new.true);
       merged = merged_equal (diff_of (entries c.args.old.now) (entries c.args.new.now)) (changes c.loop-at.found.items) (changes c.add_if_changed.new.found.items) c.args.old.now c.args.new.now c.loop-at.at c.loop-at.next e f

@@ -5,9 +5,9 @@ use Rattle.atproto_mst.specs.Entries.{entries}
 use Rattle.atproto_mst.specs.Nodes.{row_told, node_told}
 use Rattle.atproto_mst.specs.Walks.{WalksTree, WalksLink, WalksRows}
 use Rattle.atproto_mst.specs.Stops.{StopsWalk, StopsInRows, last_entry_key}
-use Rattle.atproto_mst.specs.Gathering.{GathersEntries, key_behind}
+use Rattle.atproto_mst.specs.Gathering.{GathersEntries, key_after}
 use Rattle.atproto_mst.specs.InLayers.{IsRightBelow}
-use Rattle.atproto_mst.proofs.Gathering.{GoesOn, SettledBy, or_more, both, all_three, gathers_no_link, gathers_node, stops_in_node, gathers_named, stops_named, no_node, below_decided, row_next, no_row_left, stops_at_row, stops_behind_row, goes_behind_row, goes_to_end, key_kept, still_there, settled_behind_row}
+use Rattle.atproto_mst.proofs.Gathering.{GoesOn, SettledBy, or_more, both, all_three, gathers_no_link, gathers_node, stops_in_node, gathers_named, stops_named, no_node, below_decided, row_next, no_row_left, stops_at_row, stops_after_row, goes_after_row, goes_to_end, key_kept, still_there, settled_after_row}
 use Rattle.atproto_mst.proofs.read.+gather.Goals as goal
 
 pub gather-returns-in_err-node-clause-stopped : goal.gather-returns-in_err-node-clause-stopped
@@ -58,7 +58,7 @@ gather_rows-returns-in_err-is_row-clause-stopped t c =
     let S = StopsWalk c.args.layers (stored_in c.args.blocks.now) in
     let all = map row_told c.args.rows.now in
     let rest = map row_told (drop (c.loop-row.row-index + 1) c.args.rows.now) in
-    let key = key_behind c.loop-row.previous c.loop-row.found.items in
+    let key = key_after c.loop-row.previous c.loop-row.found.items in
     let go = subst (GoesOn W S c.args.found.now all c.loop-row.found key)
     (row_next c.args.rows.now c.loop-row.row-index c.row-item.result c.loop-row-test.true c.row-item.is) c.loop-row.invariant.1 in
     rw (p.1, p.2) (or_more (stops_at_row W S c.args.found.now all c.loop-row.found key (row_told c.row-item.result) rest go c.in_err-is_row.field-0.0) c.in_err-is_row.ensures.stopped)
@@ -71,10 +71,10 @@ gather_rows-returns-in_err-below-clause-stopped t c =
     let S = StopsWalk c.args.layers (stored_in c.args.blocks.now) in
     let all = map row_told c.args.rows.now in
     let rest = map row_told (drop (c.loop-row.row-index + 1) c.args.rows.now) in
-    let key = key_behind c.loop-row.previous c.loop-row.found.items in
+    let key = key_after c.loop-row.previous c.loop-row.found.items in
     let go = subst (GoesOn W S c.args.found.now all c.loop-row.found key)
     (row_next c.args.rows.now c.loop-row.row-index c.row-item.result c.loop-row-test.true c.row-item.is) c.loop-row.invariant.1 in
-    rw (p.1, p.2) (or_more (stops_behind_row W S c.args.found.now all c.loop-row.found key (row_told c.row-item.result) rest go
+    rw (p.1, p.2) (or_more (stops_after_row W S c.args.found.now all c.loop-row.found key (row_told c.row-item.result) rest go
     c.add_row.new.found c.in_ok-is_row.ensures.added c.in_err-below.field-0.0) c.in_err-below.ensures.stopped)
 
 pub gather_rows-loop-row-preserved : goal.gather_rows-loop-row-preserved
@@ -84,7 +84,7 @@ gather_rows-loop-row-preserved t c =
     let F = IsRightBelow (stored_in c.args.blocks.now) c.args.layer in
     let all = map row_told c.args.rows.now in
     let rest = map row_told (drop (c.loop-row.row-index + 1) c.args.rows.now) in
-    let key = key_behind c.loop-row.previous c.loop-row.found.items in
+    let key = key_after c.loop-row.previous c.loop-row.found.items in
     let row = row_told c.row-item.result in
     let next = row_next c.args.rows.now c.loop-row.row-index c.row-item.result c.loop-row-test.true c.row-item.is in
     let go = subst (GoesOn W S c.args.found.now all c.loop-row.found key) next c.loop-row.invariant.1 in
@@ -94,11 +94,11 @@ gather_rows-loop-row-preserved t c =
     let kept = key_kept (WalksLink W row.after) row key c.loop-row.found c.add_row.new.found late c.in_ok-is_row.ensures.added c.in_ok-below.ensures.walked in
     let fits = (c.loop-row.fits && c.in_ok-is_row.is_row) && c.in_ok-below.below in (
       omega (arith, count, still_there (WalksLink W row.after) c.add_row.new.found late c.in_ok-below.ensures.walked),
-      subst (λ n. GoesOn W S c.args.found.now all late (key_behind n late.items) rest) count
-          (goes_behind_row W S c.args.found.now all c.loop-row.found key row rest go c.add_row.new.found c.in_ok-is_row.ensures.added late c.in_ok-below.ensures.walked),
-      subst (λ n. SettledBy F c.args.layer all fits (key_behind n late.items) rest) count
+      subst (λ n. GoesOn W S c.args.found.now all late (key_after n late.items) rest) count
+          (goes_after_row W S c.args.found.now all c.loop-row.found key row rest go c.add_row.new.found c.in_ok-is_row.ensures.added late c.in_ok-below.ensures.walked),
+      subst (λ n. SettledBy F c.args.layer all fits (key_after n late.items) rest) count
           (subst (λ k. SettledBy F c.args.layer all fits k rest) (sym kept)
-          (settled_behind_row F c.args.layer all c.loop-row.fits c.in_ok-is_row.is_row c.in_ok-below.below fits key row rest settled c.in_ok-is_row.ensures.fits c.in_ok-below.ensures.fits
+          (settled_after_row F c.args.layer all c.loop-row.fits c.in_ok-is_row.is_row c.in_ok-below.below fits key row rest settled c.in_ok-is_row.ensures.fits c.in_ok-below.ensures.fits
           (all_three c.loop-row.fits c.in_ok-is_row.is_row c.in_ok-below.below))),
     )
 
@@ -107,6 +107,6 @@ gather_rows-returns-clause-walked t c =
     let W = WalksTree c.args.layers (stored_in c.args.blocks.now) in
     let S = StopsWalk c.args.layers (stored_in c.args.blocks.now) in
     let all = map row_told c.args.rows.now in
-    let key = key_behind c.loop-row.previous c.loop-row.found.items in
+    let key = key_after c.loop-row.previous c.loop-row.found.items in
     goes_to_end W S c.args.found.now all c.loop-row.found key
     (subst (GoesOn W S c.args.found.now all c.loop-row.found key) (no_row_left c.args.rows.now c.loop-row.row-index c.loop-row-test.false) c.loop-row.invariant.1)

@@ -4,7 +4,7 @@ use Rattle.atproto_mst.specs.Nodes.{row_told}
 use Rattle.atproto_mst.specs.Walks.{WalksTree}
 use Rattle.atproto_mst.specs.Stops.{StopsWalk}
 use Rattle.atproto_mst.specs.InLayers.{IsRightBelow}
-use Rattle.atproto_mst.specs.Gathering.{key_behind}
+use Rattle.atproto_mst.specs.Gathering.{key_after}
 use Rattle.atproto_mst.proofs.Gathering.{GoesOn, SettledBy}
 use Rattle.atproto_mst.proofs.read.+gather.Given as goal
 
@@ -23,5 +23,5 @@ decreases-gather_node l = 4 * l.layers + 3
 abbrev pub invariant-gather_rows-loop-row : goal.invariant-gather_rows-loop-row
 invariant-gather_rows-loop-row l = (l.previous ≤ length l.found.items)
     × GoesOn (WalksTree l.layers (stored_in l.blocks)) (StopsWalk l.layers (stored_in l.blocks)) l.fn.found (map row_told l.rows)
-    l.found (key_behind l.previous l.found.items) (map row_told (drop l.row-index l.rows))
-    × SettledBy (IsRightBelow (stored_in l.blocks) l.layer) l.layer (map row_told l.rows) l.fits (key_behind l.previous l.found.items) (map row_told (drop l.row-index l.rows))
+    l.found (key_after l.previous l.found.items) (map row_told (drop l.row-index l.rows))
+    × SettledBy (IsRightBelow (stored_in l.blocks) l.layer) l.layer (map row_told l.rows) l.fits (key_after l.previous l.found.items) (map row_told (drop l.row-index l.rows))

@@ -1,7 +1,7 @@
 use Rattle.std.proofs.lemmas.Result.{err_from_is_err_and}
 use Rattle.dag_pb.specs.declared.error.PbCause.TheVariants.{NoHash}
 use Rattle.dag_pb.proofs.Stopping.{stops_here}
-use Rattle.dag_pb.proofs.Fields.{empty_there, no_hash, no_hash_in_nothing, no_cid, stops_at_cid, no_end, stops_behind_hash}
+use Rattle.dag_pb.proofs.Fields.{empty_there, no_hash, no_hash_in_nothing, no_cid, stops_at_cid, no_end, stops_after_hash}
 use Rattle.dag_pb.proofs.link.read_link.Goals as goal
 
 pub returns-then-is_empty : goal.returns-then-is_empty
@@ -16,12 +16,12 @@ returns-in_err-form c =
 
 pub returns-in-Err-read_link_end : goal.returns-in-Err-read_link_end
 returns-in-Err-read_link_end c = (
-  no_end c.args.message.now c.in_ok-form.form.now c.in_ok-form.behind.now c.in_ok-form.ensures c.in-Err-read_link_end.ensures.0,
-  stops_behind_hash c.args.message.now c.in_ok-form.form.now c.in_ok-form.behind.now c.in-Err-read_link_end.stop c.in_ok-form.ensures c.in-Err-read_link_end.ensures.1,
+  no_end c.args.message.now c.in_ok-form.form.now c.in_ok-form.following.now c.in_ok-form.ensures c.in-Err-read_link_end.ensures.0,
+  stops_after_hash c.args.message.now c.in_ok-form.form.now c.in_ok-form.following.now c.in-Err-read_link_end.stop c.in_ok-form.ensures c.in-Err-read_link_end.ensures.1,
 )
 
 pub returns-in-Err : goal.returns-in-Err
 returns-in-Err c = (
-  no_cid c.args.message.now c.in_ok-form.form.now c.in_ok-form.behind.now c.in_ok-form.ensures c.in-Err.ensures.0,
-  stops_at_cid c.args.message.now c.in_ok-form.form.now c.in_ok-form.behind.now c.in-Err.fault c.in_ok-form.ensures c.in-Err.ensures.1,
+  no_cid c.args.message.now c.in_ok-form.form.now c.in_ok-form.following.now c.in_ok-form.ensures c.in-Err.ensures.0,
+  stops_at_cid c.args.message.now c.in_ok-form.form.now c.in_ok-form.following.now c.in-Err.fault c.in_ok-form.ensures c.in-Err.ensures.1,
 )

@@ -6,6 +6,6 @@ pub returns-in_err-tsize : goal.returns-in_err-tsize
 returns-in_err-tsize c =
     let p = err_from_is_err_and c.from_residual-in_err-tsize.result c.from_residual-in_err-tsize.ensures.1 in
     rw (p.1, p.2) (
-      no_size_end c.args.bytes.now c.in_ok-name.behind.now c.in_ok-name.ensures.1 c.in_err-tsize.ensures.0,
-      stops_in_size c.args.bytes.now _ c.in_ok-name.behind.now c.in_err-tsize.field-0.0 c.in_ok-name.ensures.0 c.in_err-tsize.ensures.1,
+      no_size_end c.args.bytes.now c.in_ok-name.following.now c.in_ok-name.ensures.1 c.in_err-tsize.ensures.0,
+      stops_in_size c.args.bytes.now _ c.in_ok-name.following.now c.in_err-tsize.field-0.0 c.in_ok-name.ensures.0 c.in_err-tsize.ensures.1,
     )

@@ -4,7 +4,7 @@ use Rattle.ipld_tree.specs.Spelling.{spelling, text_spelling}
 use Rattle.dag_pb.proofs.Orders.{node_links_in}
 use Rattle.dag_pb.proofs.Spelled.{node_unique}
 use Rattle.lent_memory.specs.Puts.{PutsAt, with_front}
-use Rattle.lent_memory.proofs.Putting.{room_behind, room_before, all_put}
+use Rattle.lent_memory.proofs.Putting.{room_after, room_before, all_put}
 use Rattle.dag_pb_model.specs.Model.{node_model}
 use Rattle.dag_pb_model.specs.Forms.{data_form, links_form}
 use Rattle.dag_pb_model.proofs.Measuring.{measured_form}
@@ -28,7 +28,7 @@ put_links-requires c =
       row,
       h,
       subst (λ ls. c.put_head-links.result + length (links_form ls) ≤ length c.put_head-links.new.out) (sym (node_links_in row parts are))
-          (room_behind c.put_string-count.result c.put_head-links.result (head 4 m.links) (links_form parts.links) c.put_string-count.new.out c.put_head-links.new.out
+          (room_after c.put_string-count.result c.put_head-links.result (head 4 m.links) (links_form parts.links) c.put_string-count.new.out c.put_head-links.new.out
           (fourth_room 0 c.put_head-inner.result c.put_data-key.result c.put_string-count.result (head 5 c.entries.result) (data_form (option_map (λ s. s.now) m.«data»)) (text_spelling (codes "Links")) (head 4 m.links) (links_form parts.links) c.args.out.now c.put_head-inner.new.out c.put_data-key.new.out c.put_string-count.new.out
           whole c.put_head-inner.ensures c.put_data-key.ensures c.put_string-count.ensures) c.put_head-links.ensures),
     )

@@ -1,5 +1,5 @@
 use Rattle.std.proofs.Common.{option_map, flat_map}
-use Rattle.lent_memory.proofs.Putting.{room_behind}
+use Rattle.lent_memory.proofs.Putting.{room_after}
 use Rattle.dag_pb.specs.Spelling.{data_field_bytes, link_spelling}
 use Rattle.dag_pb_model.proofs.NodeFilling.{one_row}
 use Rattle.dag_pb_model.proofs.Written.{room_for_links, node_filled, node_room}
@@ -11,7 +11,7 @@ fill_links-at-requires c = room_for_links c.args.links.now c.args.out.now (optio
 pub put_data-requires : goal.put_data-requires
 put_data-requires c =
     let r = c.requires in
-    room_behind 0 c.fill_links-at.result (flat_map link_spelling r.0) (data_field_bytes (option_map (λ b. b.now) c.args.«data»)) c.args.out.now c.fill_links-at.new.out (node_room r.0 (option_map (λ b. b.now) c.args.«data») c.args.out.now r.3) (c.fill_links-at.ensures r.0 r.1 r.2)
+    room_after 0 c.fill_links-at.result (flat_map link_spelling r.0) (data_field_bytes (option_map (λ b. b.now) c.args.«data»)) c.args.out.now c.fill_links-at.new.out (node_room r.0 (option_map (λ b. b.now) c.args.«data») c.args.out.now r.3) (c.fill_links-at.ensures r.0 r.1 r.2)
 
 pub returns : goal.returns
 returns c ls h s =

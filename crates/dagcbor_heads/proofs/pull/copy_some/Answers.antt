@@ -6,10 +6,10 @@ use Rattle.dagcbor_heads.proofs.pull.copy_some.Goals as goal
 pub returns-in_default : goal.returns-in_default
 returns-in_default g c =
     let count = c.copy_front.ensures.count ∙ ap (λ s. min c.args.want (length s)) c.shown.ensures in
-    let behind = fill_gathers c.in_ok-prepare.ensures count
+    let following = fill_gathers c.in_ok-prepare.ensures count
     (c.copy_front.ensures.grows ∙ ap (λ s. c.args.payload.now.items ++ take c.copy_front.result s) c.shown.ensures) c.advance.ensures in
     record {
-      gathered = behind;
-      looked = gathered_looked c.in_ok-prepare.ensures count (omega arith) c.advance.ensures behind;
+      gathered = following;
+      looked = gathered_looked c.in_ok-prepare.ensures count (omega arith) c.advance.ensures following;
       at_most = gathered_most c.in_ok-prepare.ensures count c.advance.ensures;
     }

@@ -3,7 +3,7 @@ use Rattle.std.specs.Prelude.{⊤}
 use Rattle.dagcbor_heads.proofs.Refusing.{as_refusal}
 use Rattle.dagcbor_heads.specs.Reading.{Reading}
 use Rattle.dagcbor_heads.proofs.Looking.{looks_more, looks_then, some_both, some_then, some_taken, nothing_looked, same_looked}
-use Rattle.dagcbor_items.proofs.Looks.{once_left_more, looks_behind_peek, stepped_left, looks_stepped}
+use Rattle.dagcbor_items.proofs.Looks.{once_left_more, looks_after_peek, stepped_left, looks_stepped}
 use Rattle.ipld_tree.specs.Tree.{ordered_entries}
 use Rattle.ipld_tree.specs.Ipld.{tree_of, pairs_of}
 use Rattle.ipld_tree.specs.declared.ipld.Ipld.{the_lemmas}
@@ -124,9 +124,9 @@ pub read_entries-loop-index-preserved : goal.read_entries-loop-index-preserved
 read_entries-loop-index-preserved g t c =
     let put = maps.on_ok _ _ c.if-is_err.ensures.value c.insert.ensures.entries in
     let follows = c.in_ok-key.ensures.key.0 in
-    let behind = maps.behind_last _ c.loop-index.invariant.read follows in
+    let following = maps.after_last _ c.loop-index.invariant.read follows in
     let same = c.in-Ok.ensures.ok ∙ c.as_str.ensures.value in
-    let pushed = ordered_push _ _ _ _ put c.insert.ensures.was_ordered c.insert.ensures.ordered (follows_as _ _ _ (sym same) behind) in
+    let pushed = ordered_push _ _ _ _ put c.insert.ensures.was_ordered c.insert.ensures.ordered (follows_as _ _ _ (sym same) following) in
     record {
       read = maps.one_entry_read _ _ _ _ (pushed_as _ _ _ _ _ same pushed) refl (omega arith) c.loop-index.invariant.read follows (text_taken _ c.in_ok-key.ensures.key.1) c.in_ok-read_into.ensures.item;
       looked = some_both (some_both c.loop-index.invariant.looked (some_taken c.in_ok-key.ensures.looked)) (some_taken c.in_ok-read_into.ensures.looked);
@@ -148,4 +148,4 @@ pub read_item-returns-then-is_indefinite-clause-looked : goal.read_item-returns-
 read_item-returns-then-is_indefinite-clause-looked g t c = once_left_more 3 (omega arith) c.in_ok-first.ensures.looked
 
 pub read_item-returns-clause-looked : goal.read_item-returns-clause-looked
-read_item-returns-clause-looked g t c = looks_behind_peek 3 _ _ c.in_ok-first.ensures.looked c.in_ok-first.ensures.shown (rw c.in_default.ensures.taken at c.put_of_major.ensures.looked)
+read_item-returns-clause-looked g t c = looks_after_peek 3 _ _ c.in_ok-first.ensures.looked c.in_ok-first.ensures.shown (rw c.in_default.ensures.taken at c.put_of_major.ensures.looked)

@@ -2,7 +2,7 @@ use Rattle.dagcbor_items.proofs.Links.{link_read, first_refused, second_refused}
 use Rattle.std.proofs.Common.{arith}
 use Rattle.dagcbor_heads.proofs.Refusing.{as_refusal}
 use Rattle.dagcbor_heads.proofs.Looking.{looks_both, looks_then}
-use Rattle.dagcbor_items.proofs.Looks.{looks_behind, taken_more, major_left, one_byte_taken}
+use Rattle.dagcbor_items.proofs.Looks.{looks_after, taken_more, major_left, one_byte_taken}
 use Rattle.dagcbor_items.proofs.link.pull_link.Goals as goal
 
 pub returns-clause-link : goal.returns-clause-link
@@ -17,7 +17,7 @@ returns-in_err-pull_wanted-2-clause-link g c = as_refusal _ _ _ _ c.from_residua
 pub returns-clause-looked : goal.returns-clause-looked
 returns-clause-looked g c =
     let wanted = looks_both c.in_ok-pull_wanted.ensures.looked c.in_ok-pull_wanted-2.ensures.looked in
-    looks_behind _ _ (taken_more 2 (omega arith) wanted) c.pull_cid.ensures.looked
+    looks_after _ _ (taken_more 2 (omega arith) wanted) c.pull_cid.ensures.looked
 
 pub returns-in_err-pull_wanted-clause-peeked : goal.returns-in_err-pull_wanted-clause-peeked
 returns-in_err-pull_wanted-clause-peeked g c = λ starts. as_refusal _ _ _ _ c.from_residual.ensures.1 (major_left starts c.in_err-pull_wanted.ensures.looked)
@@ -29,4 +29,4 @@ returns-in_err-pull_wanted-2-clause-peeked g c =
 pub returns-clause-peeked : goal.returns-clause-peeked
 returns-clause-peeked g c =
     let tag = taken_more 2 (omega arith) c.in_ok-pull_wanted-2.ensures.looked in
-    λ starts. looks_behind _ _ (looks_both (one_byte_taken c.in_ok-pull_wanted.ensures.looked c.in_ok-pull_wanted.ensures.wanted) tag) c.pull_cid.ensures.looked
+    λ starts. looks_after _ _ (looks_both (one_byte_taken c.in_ok-pull_wanted.ensures.looked c.in_ok-pull_wanted.ensures.wanted) tag) c.pull_cid.ensures.looked

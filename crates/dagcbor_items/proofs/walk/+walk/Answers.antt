@@ -4,7 +4,7 @@ use Rattle.dagcbor_heads.specs.Looking.{Looks}
 use Rattle.dagcbor_heads.proofs.Refusing.{as_refusal}
 use Rattle.dagcbor_heads.specs.Reading.{Reading}
 use Rattle.dagcbor_heads.proofs.Looking.{looks_more, looks_then, some_both, some_then, some_taken, nothing_looked, same_looked}
-use Rattle.dagcbor_items.proofs.Looks.{once_left_more, looks_behind_peek, stepped_left, looks_stepped}
+use Rattle.dagcbor_items.proofs.Looks.{once_left_more, looks_after_peek, stepped_left, looks_stepped}
 use Rattle.ipld_tree.specs.Tree.{no_entries}
 use Rattle.dagcbor_items.proofs.Fronts.{byte_refused}
 use Rattle.dagcbor_items.proofs.Leaves.{indefinite_refused}
@@ -150,7 +150,7 @@ pub walk_item-returns-then-is_indefinite-clause-looked : goal.walk_item-returns-
 walk_item-returns-then-is_indefinite-clause-looked g t c = once_left_more 3 (omega arith) c.in_ok-first.ensures.looked
 
 pub walk_item-returns-clause-looked : goal.walk_item-returns-clause-looked
-walk_item-returns-clause-looked g t c = looks_behind_peek 3 _ _ c.in_ok-first.ensures.looked c.in_ok-first.ensures.shown c.walk_of_major.ensures.looked
+walk_item-returns-clause-looked g t c = looks_after_peek 3 _ _ c.in_ok-first.ensures.looked c.in_ok-first.ensures.shown c.walk_of_major.ensures.looked
 
 pub walk_any-returns-then-take_leaf-clause-item : goal.walk_any-returns-then-take_leaf-clause-item
 walk_any-returns-then-take_leaf-clause-item g t c =

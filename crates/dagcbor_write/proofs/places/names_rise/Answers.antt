@@ -16,9 +16,9 @@ returns-then-not-comes_before c =
 
 pub loop-place-preserved : goal.loop-place-preserved
 loop-place-preserved c =
-    let behind = ap (comes_before c.loop-place.last.now) (sym c.as_bytes-name.ensures.value)
+    let following = ap (comes_before c.loop-place.last.now) (sym c.as_bytes-name.ensures.value)
     ∙ sym c.if-not-comes_before.ensures in
-    c.loop-place.invariant ∙ name_rises c.args.places.now _ _ _ c.loop-place-test.true behind
+    c.loop-place.invariant ∙ name_rises c.args.places.now _ _ _ c.loop-place-test.true following
     ∙ ap (λ last. names_rise last (drop (c.loop-place.place-index + 1) c.args.places.now))
     (sym c.as_bytes-name.ensures.value)
 

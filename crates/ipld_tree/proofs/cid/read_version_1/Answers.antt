@@ -42,17 +42,17 @@ returns-in_err-length c =
 pub returns-then-length : goal.returns-then-length
 returns-then-length c =
     let varints = three c.in_ok-codec.codec c.in_ok-hash_code.hash_code c.in_ok-length.length c.in_ok-codec.ensures c.in_ok-hash_code.ensures c.in_ok-length.ensures in
-    let at : IsFault DigestTooLong (0x01 ∷ c.args.behind.now) = (_, _, _, _, varints, c.if-length.true) in
+    let at : IsFault DigestTooLong (0x01 ∷ c.args.following.now) = (_, _, _, _, varints, c.if-length.true) in
     fault_refuses DigestTooLong _ at
 
 pub returns-in-Less : goal.returns-in-Less
 returns-in-Less c =
     let varints = three c.in_ok-codec.codec c.in_ok-hash_code.hash_code c.in_ok-length.length c.in_ok-codec.ensures c.in_ok-hash_code.ensures c.in_ok-length.ensures in
-    let at : IsFault Truncated (0x01 ∷ c.args.behind.now) = inr (inr (_, _, _, _, varints, (c.if-length.false, ranked _ _ Less c.in-Less.ensures))) in
+    let at : IsFault Truncated (0x01 ∷ c.args.following.now) = inr (inr (_, _, _, _, varints, (c.if-length.false, ranked _ _ Less c.in-Less.ensures))) in
     fault_refuses Truncated _ at
 
 pub returns-in-Greater : goal.returns-in-Greater
 returns-in-Greater c =
     let varints = three c.in_ok-codec.codec c.in_ok-hash_code.hash_code c.in_ok-length.length c.in_ok-codec.ensures c.in_ok-hash_code.ensures c.in_ok-length.ensures in
-    let at : IsFault TrailingBytes (0x01 ∷ c.args.behind.now) = (_, _, _, _, varints, (c.if-length.false, ranked _ _ Greater c.in-Greater.ensures)) in
+    let at : IsFault TrailingBytes (0x01 ∷ c.args.following.now) = (_, _, _, _, varints, (c.if-length.false, ranked _ _ Greater c.in-Greater.ensures)) in
     fault_refuses TrailingBytes _ at

@@ -2,8 +2,8 @@ use Rattle.std.proofs.Common.{Some, [], ◌∷◌, ap, subst}
 use Rattle.std.specs.List.{AllByRecursion}
 use Rattle.serde_ipld_dagcbor.specs.Walks.{forms}
 use Rattle.serde_ipld_dagcbor.specs.Written.{WroteAll, Stops}
-use Rattle.dagcbor_car.specs.Car.{Section, section_bytes, IsSection}
-use Rattle.dagcbor_car.proofs.Writing.{one_section, written_more, header_stopped, section_stopped, header_unsent, section_unsent}
+use Rattle.files_car.specs.Car.{Section, section_bytes, IsSection}
+use Rattle.files_car.proofs.Writing.{one_section, written_more, header_stopped, section_stopped, header_unsent, section_unsent}
 use Rattle.dagcbor_blocks.proofs.Keeping.{shown}
 use Rattle.dagcbor_blocks.proofs.store.Blocks.write_car.Goals as goal
 

@@ -1,6 +1,6 @@
 use Rattle.serde_ipld_dagcbor.specs.Walks.{forms}
 use Rattle.dagcbor_blocks.proofs.Keeping.{shown}
-use Rattle.dagcbor_car.proofs.Writing.{WrittenTo}
+use Rattle.files_car.proofs.Writing.{WrittenTo}
 use Rattle.dagcbor_blocks.proofs.store.Blocks.write_car.Given as goal
 
 abbrev pub invariant-loop-name : goal.invariant-loop-name

@@ -1,9 +1,9 @@
 use Rattle.std.proofs.Common.{Some, [], ◌∷◌, sym, subst}
 use Rattle.serde_ipld_dagcbor.specs.Cid.{cid_bytes}
 use Rattle.serde_ipld_dagcbor.specs.Written.{Stops}
-use Rattle.dagcbor_car.specs.Car.{car_bytes}
+use Rattle.files_car.specs.Car.{car_bytes}
 use Rattle.ipld_links.specs.Reaching.{ListsReachable, stored_in}
-use Rattle.dagcbor_car.specs.Reached.{sections_at}
+use Rattle.files_car.specs.Reached.{sections_at}
 use Rattle.dagcbor_blocks.specs.Blocks.{held_blocks}
 use Rattle.dagcbor_blocks.specs.Reaching.{stored}
 use Rattle.dagcbor_blocks.proofs.Reaching.{tree_written, tree_faulted, tree_lacks}

@@ -1,0 +1,4 @@
+pub mod Written
+pub mod Putting
+pub mod JsonReading
+pub mod EventsWritten

@@ -1,4 +1,0 @@
-pub mod Names
-pub mod Codecs
-pub mod Lines
-pub mod Shown

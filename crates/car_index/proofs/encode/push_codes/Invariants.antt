@@ -1,9 +1,0 @@
-use Rattle.std.proofs.Common.{◌≡◌, ◌++◌, length, flat_map}
-use Rattle.car_index.specs.Index.{code_bytes, runs, hash_code_of}
-use Rattle.car_index.proofs.encode.push_codes.Given as goal
-
-abbrev pub invariant-loop-front : goal.invariant-loop-front
-invariant-loop-front l = l.out.items ++ flat_map code_bytes (runs hash_code_of l.rest) ≡ l.initial.out.items ++ flat_map code_bytes (runs hash_code_of l.entries)
-
-abbrev pub decreases-loop-front : goal.decreases-loop-front
-decreases-loop-front l = length l.rest

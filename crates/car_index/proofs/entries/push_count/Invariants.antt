@@ -1,7 +1,0 @@
-use Rattle.std.proofs.Common.{◌-◌}
-use Rattle.car_index.specs.Entries.{code_part}
-use Rattle.car_index.proofs.Parts.{Going}
-use Rattle.car_index.proofs.entries.push_count.Given as goal
-
-abbrev pub invariant-loop-number : goal.invariant-loop-number
-invariant-loop-number g l = Going code_part l.count (l.count - l._number) (g.R.Read.remaining l.initial.input) l.initial.entries.items l.entries.items l.last (g.R.Read.remaining l.input)

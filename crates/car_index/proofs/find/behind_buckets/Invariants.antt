@@ -1,7 +1,0 @@
-use Rattle.std.proofs.Common.{◌≡◌, ◌-◌, ◌^◌, ◌<◌, length, IfSome}
-use Rattle.car_index.specs.Lookup.{after_heads, after_buckets}
-use Rattle.car_index.proofs.find.behind_buckets.Given as goal
-
-abbrev pub invariant-loop-bucket : goal.invariant-loop-bucket
-invariant-loop-bucket g l = IfSome (g.S.ReadAt.bytes l.source) (λ b. length b < 2 ^ 64
-    → after_heads b (l.count - l._bucket) l.next ≡ after_buckets b l.place)

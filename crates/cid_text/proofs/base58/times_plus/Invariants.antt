@@ -1,5 +1,0 @@
-use Rattle.cid_text.proofs.Numbers58.{IsMultiplying}
-use Rattle.cid_text.proofs.base58.times_plus.Given as goal
-
-abbrev pub invariant-loop-digit : goal.invariant-loop-digit
-invariant-loop-digit l = IsMultiplying l.base l.times l.plus l.digits l.out.items l.carry l.digit-index

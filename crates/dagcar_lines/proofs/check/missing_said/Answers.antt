@@ -1,5 +1,0 @@
-use Rattle.dagcar_lines.proofs.Saying.{missing_is_said}
-use Rattle.dagcar_lines.proofs.check.missing_said.Goals as goal
-
-pub returns : goal.returns
-returns c = missing_is_said c.args.check c.in_ok-missing.missing _ c.names_said.result c.deref.ensures.value c.in_ok-missing.ensures.lists c.names_said.ensures.lines c.names_said.ensures.well

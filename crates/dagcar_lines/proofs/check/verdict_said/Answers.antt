@@ -1,5 +1,0 @@
-use Rattle.block_lines.proofs.Saying.{known_anyway}
-use Rattle.dagcar_lines.proofs.check.verdict_said.Goals as goal
-
-pub returns-in-Ok-clause-taken : goal.returns-in-Ok-clause-taken
-returns-in-Ok-clause-taken c = known_anyway c.section_answer.result c.in-Ok.ensures.after

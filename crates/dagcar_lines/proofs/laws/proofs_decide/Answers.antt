@@ -1,8 +1,0 @@
-use Rattle.dagcar_lines.proofs.Proving.{data_decided, bytes_decided}
-use Rattle.dagcar_lines.proofs.laws.proofs_decide.Goals as goal
-
-pub returns-clause-data : goal.returns-clause-data
-returns-clause-data c = data_decided
-
-pub returns-clause-bytes : goal.returns-clause-bytes
-returns-clause-bytes c = bytes_decided

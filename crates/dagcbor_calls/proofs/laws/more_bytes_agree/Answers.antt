@@ -1,5 +1,0 @@
-use Rattle.dagcbor_calls.proofs.LongerCalls.{more_bytes_agree}
-use Rattle.dagcbor_calls.proofs.laws.more_bytes_agree.Goals as goal
-
-pub returns : goal.returns
-returns c = more_bytes_agree

@@ -1,5 +1,0 @@
-use Rattle.dagcbor_car.proofs.Starting.{file_unique}
-use Rattle.dagcbor_car.proofs.laws.files_are_unique.Goals as goal
-
-pub returns : goal.returns
-returns c = file_unique

@@ -1,5 +1,0 @@
-use Rattle.dagcbor_lines.proofs.Said.{links_refused}
-use Rattle.dagcbor_lines.proofs.answer.push_link_line.Goals as goal
-
-pub returns-in_default : goal.returns-in_default
-returns-in_default c = links_refused _ _ c.in-Err.refusal c.in_default.not-OutOfMemory c.in-Err.ensures.decoded c.push_refusal.ensures

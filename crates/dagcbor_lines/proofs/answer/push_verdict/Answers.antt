@@ -1,5 +1,0 @@
-use Rattle.dagcbor_lines.proofs.Said.{check_refused}
-use Rattle.dagcbor_lines.proofs.answer.push_verdict.Goals as goal
-
-pub returns-in-Err : goal.returns-in-Err
-returns-in-Err c = check_refused _ _ c.in-Err.refusal c.in-Err.ensures.decoded c.push_refusal.ensures

@@ -1,5 +1,0 @@
-use Rattle.dagcbor_resolve.proofs.Telling.{nothing_is_led_to}
-use Rattle.dagcbor_resolve.proofs.laws.nothing_is_led_to.Goals as goal
-
-pub returns : goal.returns
-returns c = nothing_is_led_to

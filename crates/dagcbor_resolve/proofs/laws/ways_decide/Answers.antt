@@ -1,8 +1,0 @@
-use Rattle.dagcbor_resolve.proofs.Deciding.{ends_decided, items_decided}
-use Rattle.dagcbor_resolve.proofs.laws.ways_decide.Goals as goal
-
-pub returns-clause-ends : goal.returns-clause-ends
-returns-clause-ends c = ends_decided
-
-pub returns-clause-items : goal.returns-clause-items
-returns-clause-items c = items_decided

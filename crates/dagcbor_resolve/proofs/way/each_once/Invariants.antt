@@ -1,6 +1,0 @@
-use Rattle.std.proofs.Common.{take}
-use Rattle.dagcbor_resolve.proofs.Gathering.{Gathered}
-use Rattle.dagcbor_resolve.proofs.way.each_once.Given as goal
-
-abbrev pub invariant-loop-name : goal.invariant-loop-name
-invariant-loop-name l = Gathered (take l.name-index l.names) l.once.items l.seen

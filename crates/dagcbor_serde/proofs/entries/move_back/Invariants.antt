@@ -1,5 +1,0 @@
-use Rattle.std.proofs.Common.{IsPermutation}
-use Rattle.dagcbor_serde.proofs.entries.move_back.Given as goal
-
-abbrev pub invariant-loop-step : goal.invariant-loop-step
-invariant-loop-step l = IsPermutation l.fn.spans l.spans

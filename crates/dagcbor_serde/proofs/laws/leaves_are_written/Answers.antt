@@ -1,5 +1,0 @@
-use Rattle.dagcbor_serde.proofs.Making.{leaves_written}
-use Rattle.dagcbor_serde.proofs.laws.leaves_are_written.Goals as goal
-
-pub returns : goal.returns
-returns c = leaves_written

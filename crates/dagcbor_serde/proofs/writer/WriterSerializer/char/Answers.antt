@@ -1,5 +1,0 @@
-use Rattle.dagcbor_serde.proofs.Logs.{follows_more}
-use Rattle.dagcbor_serde.proofs.writer.WriterSerializer.char.Goals as goal
-
-pub invariant_of-self-2 : goal.invariant_of-self-2
-invariant_of-self-2 c = record { follows = follows_more _ _ _ _ _ _ c.args.self.now.follows c.in_default.ensures.moved c.then-self.ensures }

@@ -1,4 +1,0 @@
-use Rattle.dagstore_lines.proofs.import.behind_line.Goals as goal
-
-pub returns : goal.returns
-returns c = rw (c.as_bytes.ensures.value, c.in_ok-count.ensures.ok) at c.line_of.ensures

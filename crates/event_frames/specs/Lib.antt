@@ -1,4 +1,0 @@
-pub mod Blocks
-pub mod Kinds
-pub mod Bodies
-pub mod Frames

@@ -1,6 +1,0 @@
-use Rattle.std.proofs.Common.{None}
-use Rattle.event_lines.proofs.Keeping.{seen_put}
-use Rattle.event_lines.proofs.seen.forget.Goals as goal
-
-pub returns : goal.returns
-returns c = seen_put c.args.seen.now c.remove-before.new.self c.args.did.now None c.remove-before.ensures.updates

@@ -1,4 +1,0 @@
-pub mod Contents
-pub mod Paths
-pub mod Listing
-pub mod Shown

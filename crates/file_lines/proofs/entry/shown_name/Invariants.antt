@@ -1,6 +1,0 @@
-use Rattle.std.proofs.Common.{◌≡◌, ◌∷◌, take, flat_map}
-use Rattle.file_lines.specs.Entries.{shown_byte}
-use Rattle.file_lines.proofs.entry.shown_name.Given as goal
-
-abbrev pub invariant-loop-byte : goal.invariant-loop-byte
-invariant-loop-byte l = l.out.items ≡ 32 ∷ flat_map shown_byte (take l.byte-index l.name)

@@ -1,6 +1,0 @@
-use Rattle.std.proofs.Common.{◌≡◌, [], sym, subst}
-use Rattle.file_lines.specs.Stops.{stop_line}
-use Rattle.file_lines.proofs.stop.stop_line.Goals as goal
-
-pub returns-in_ok-line-in-NoBlock : goal.returns-in_ok-line-in-NoBlock
-returns-in_ok-line-in-NoBlock c = subst (λ s. c.in_ok-line-in-NoBlock.line.items ≡ stop_line c.args.name.now s) (sym c.in-NoBlock.is) (c.in_ok-line-in-NoBlock.ensures.line [])

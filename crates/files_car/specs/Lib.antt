@@ -1,0 +1,14 @@
+pub mod Car
+pub mod Versions
+pub mod Splits
+pub mod Extents
+pub mod Sources
+pub mod Steps
+pub mod Writers
+pub mod Told
+pub mod Reached
+pub mod Each
+pub mod Runs
+pub mod Laws
+pub mod Checks
+pub mod Blocks

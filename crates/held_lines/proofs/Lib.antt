@@ -1,3 +1,0 @@
-pub mod Known
-pub mod Taking
-pub mod Keeping

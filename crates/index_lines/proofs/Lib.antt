@@ -1,9 +1,0 @@
-mod Spanning
-mod Copying
-mod Gathering
-mod Sending
-mod Headers
-mod Sought
-mod Placed
-mod Finding
-mod Listing

@@ -1,9 +1,0 @@
-use Rattle.std.proofs.Common.{ap, ◌∙◌}
-use Rattle.inspect_lines.specs.Rows.{counts_in}
-use Rattle.inspect_lines.proofs.Counting.{counted}
-use Rattle.inspect_lines.proofs.counts.Counts.count.Goals as goal
-
-pub returns : goal.returns
-returns c = counted c.args.self.now _ (c.args.cid.now, c.args.bytes) c.add.result c.in_ok-self.ensures c.least_with-self.ensures c.max-self.ensures
-    (c.in_ok-count.ensures ∙ ap (λ n. counts_in c.args.self.now.codecs.rows.entries n c.args.bytes) c.codec.ensures)
-    (c.in_ok-count-2.ensures ∙ ap (λ n. counts_in c.args.self.now.hashes.rows.entries n c.args.bytes) c.hash_code.ensures) c.add.ensures

@@ -1,6 +1,0 @@
-use Rattle.std.proofs.Common.{IfSome}
-use Rattle.inspect_lines.proofs.Fronts.{TookSome}
-use Rattle.inspect_lines.proofs.front.read_front.Given as goal
-
-abbrev pub invariant-loop-place : goal.invariant-loop-place
-invariant-loop-place g l = IfSome (g.R.Read.remaining l.initial.input) (λ b. TookSome l._place b l.front.items (g.R.Read.remaining l.input))

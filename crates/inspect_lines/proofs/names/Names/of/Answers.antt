@@ -1,6 +1,0 @@
-use Rattle.std.proofs.Common.{◌∙◌}
-use Rattle.inspect_lines.proofs.Counting.{distinct_more}
-use Rattle.inspect_lines.proofs.names.Names.of.Goals as goal
-
-pub loop-cid-preserved : goal.loop-cid-preserved
-loop-cid-preserved c = c.in_ok-add.ensures ∙ distinct_more c.args.cids.now c.loop-cid.cid-index c.cid-item.result c.loop-cid.names.cids.keys c.loop-cid-test.true c.cid-item.is c.loop-cid.invariant

@@ -1,6 +1,0 @@
-use Rattle.std.proofs.Common.{◌≡◌, take, flat_map}
-use Rattle.inspect_lines.specs.Facts.{root_told}
-use Rattle.inspect_lines.proofs.plain.root_lines.Given as goal
-
-abbrev pub invariant-loop-root : goal.invariant-loop-root
-invariant-loop-root l = l.lines.items ≡ flat_map root_told (take l.root-index l.roots)

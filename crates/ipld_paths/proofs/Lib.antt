@@ -1,0 +1,13 @@
+pub mod Cutting
+pub mod Indices
+pub mod Items
+pub mod Entries
+pub mod ByHeads
+pub mod Leading
+pub mod Ends
+pub mod Reading
+pub mod Ways
+pub mod Binding
+pub mod Telling
+pub mod Deciding
+pub mod Gathering

@@ -1,0 +1,13 @@
+use Rattle.std.proofs.Common.{length}
+use denote.Text.{Utf8}
+use denote.Shadow.{shadow}
+use Rattle.ipld_paths.specs.Paths.{segments}
+use Rattle.ipld_paths.specs.Parts.{EndsWith}
+use Rattle.ipld_paths.proofs.Ends.{Walks}
+use Rattle.ipld_paths.proofs.find.follow.Given as goal
+
+abbrev pub invariant-loop-segment : goal.invariant-loop-segment
+invariant-loop-segment l = shadow (Utf8 l.left) × Walks l.bytes (segments l.path) l.at (segments l.left) × EndsWith l.bytes l.at × EndsWith l.path l.left
+
+abbrev pub decreases-loop-segment : goal.decreases-loop-segment
+decreases-loop-segment l = length (segments l.left)

@@ -1,0 +1,11 @@
+pub use Rattle.ipld_tree.specs.Tree
+pub use Rattle.ipld_tree.specs.Spelling
+pub use Rattle.dagcbor_items.specs.Slices
+pub use Rattle.dagcbor_decode.specs.TreeKinds
+pub use Rattle.ipld_links.specs.Verdicts
+pub use Rattle.ipld_links.specs.Reaching
+pub mod Paths
+pub mod Parts
+pub mod Finding
+pub mod Resolving
+pub mod Laws

@@ -1,3 +1,0 @@
-pub mod Blocks
-pub mod Answers
-pub mod JsonAnswers

@@ -1,9 +1,0 @@
-use Rattle.std.proofs.Common.{subst, sym}
-use Rattle.held_lines.proofs.Known.{if_some}
-use Rattle.block_lines.proofs.Saying.{both_said}
-use Rattle.named_lines.specs.Gets.{IsGotNamed}
-use Rattle.named_lines.proofs.get.get_named.Goals as goal
-
-pub returns : goal.returns
-returns g c = if_some (g.S.ReadAt.bytes c.args.source.now) c.in_ok-said.ensures (λ b h.
-    both_said (IsGotNamed c.args.name.now b) c.in_ok-said.said.0.items c.deref.result.now c.in_ok-said.said.1 _ _ c.say_both.result _ _ (subst (IsGotNamed c.args.name.now b c.in_ok-said.said.1 c.in_ok-said.said.0.items) (sym c.deref.ensures.value) (h c.in_ok-found.ensures)) c.say_both.ensures)

@@ -1,6 +1,0 @@
-use Rattle.std.proofs.Common.{◌≡◌, take, flat_map}
-use Rattle.named_lines.specs.Indexes.{unlisted_line}
-use Rattle.named_lines.proofs.texts.unlisted_lines.Given as goal
-
-abbrev pub invariant-loop-section : goal.invariant-loop-section
-invariant-loop-section l = l.lines.items ≡ flat_map unlisted_line (take l.section-index l.sections)

@@ -1,0 +1,9 @@
+pub mod Saying
+pub mod Ending
+pub mod Contents
+pub mod Paths
+pub mod Listing
+pub mod NamesShown
+pub mod Known
+pub mod Taking
+pub mod Keeping

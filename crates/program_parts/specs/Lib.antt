@@ -1,0 +1,15 @@
+pub use Rattle.files_unix_fs.specs.Files
+pub use Rattle.files_unix_fs.specs.Reading
+pub mod Names
+pub mod Codecs
+pub mod Lines
+pub mod Shown
+pub mod Ends
+pub mod Raw
+pub mod Proof
+pub mod Stops
+pub mod Content
+pub mod FileNames
+pub mod Entries
+pub mod Taking
+pub mod Holding

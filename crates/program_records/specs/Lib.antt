@@ -1,0 +1,10 @@
+pub mod Keys
+pub mod Words
+pub mod Repositories
+pub mod Records
+pub mod Json
+pub mod Differing
+pub mod Laws
+pub mod CommitWords
+pub mod Commits
+pub mod Proofs

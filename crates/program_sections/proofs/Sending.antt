@@ -1,0 +1,79 @@
+-- How a file is written, piece by piece.
+use Rattle.std.specs.Bool.{⊤}
+use Rattle.std.proofs.Common.{◌≡◌, inl, inr, List, ℕ, [], ◌++◌, append-nil, append_assoc, Bool, true, false, IsTrue, refl, sym, ap, ◌∙◌, subst, ◌∷◌, IsErrAnd, IfSome, Option, None, Some, Result, Ok, Err}
+use Rattle.std.specs.Io.KnownBytes.{Appends}
+use Rattle.std.proofs.KnownBytes.{Appends-nil, Appends-trans}
+use Rattle.dagcbor_heads.specs.Written.{Written, Stops, WroteFront, WantsMemoryOnlyIf}
+use Rattle.dagcbor_core.specs.declared.error.EncodeError.{EncodeError}
+use Rattle.dagcbor_core.specs.declared.error.EncodeError.TheVariants as unsent
+use Rattle.files_car.specs.Writers.{UnsentWithoutMemory}
+use Rattle.program_shared.specs.declared.fault.ToolError.{ToolError}
+use Rattle.program_shared.specs.declared.fault.ToolError.TheVariants.{Output}
+use Rattle.program_parts.specs.Lines.{BreaksLine, SaysLines, SaysBoth}
+use Rattle.program_parts.proofs.Saying.{both_said}
+use Rattle.program_sections.specs.Sending.{SendsText, BreaksSent, SaysSent}
+
+-- a fault of the device: a prefix of the text was written
+pub front_sent : {E : Type 0} (text : List ℕ) (old new : Written) (e : EncodeError E) (f : E) (before after : Option (List ℕ)) → Stops (Some text) old new e → e ≡ unsent.Write f → old.bytes ≡ before → new.bytes ≡ after → BreaksLine (λ out. out ≡ text) before after Output
+front_sent text old new e f before after stops is b a =
+    let k = (subst (Stops (Some text) old new) is stops).0 in
+    inr (k.0, k.1, sym k.2, refl, subst (λ x. Appends x after k.0) b (subst (λ x. Appends old.bytes x k.0) a k.3))
+
+-- any other refusal of a writer that takes no memory: nothing was written
+pub none_sent : {E : Type 0} (text : List ℕ) (old new : Written) (e : EncodeError E) (x : ToolError) (before after : Option (List ℕ)) → Stops (Some text) old new e → UnsentWithoutMemory {T = Unit {0}} false old (Err e) new → ((f : E) → e ≡ unsent.Write f → ⊥) → old.bytes ≡ before → new.bytes ≡ after → BreaksLine (λ out. out ≡ text) before after x
+none_sent text old new (unsent.Msg m) x before after stops none other b a = absurd (let clash : Some text ≡ None = stops.0 in cc clash)
+none_sent text old new (unsent.Write f) x before after stops none other b a = absurd (other f refl)
+none_sent text old new unsent.OutOfMemory x before after stops none other b a = inl (subst (λ y. Appends before y []) (sym b ∙ ap (λ (w : Written). w.bytes) (sym (none refl)) ∙ a) (Appends-nil before))
+
+-- a writer that takes no memory writes nothing if it reports out of memory
+pub unsent_anyway : {E : Type 0} (old new : Written) (e : EncodeError E) → WantsMemoryOnlyIf {T = Unit {0}} false (Err e) → UnsentWithoutMemory {T = Unit {0}} false old (Err e) new
+unsent_anyway old new unsent.OutOfMemory h = absurd (let clash : false ≡ true = h in cc clash)
+unsent_anyway old new (unsent.Msg m) h = tt
+unsent_anyway old new (unsent.Write f) h = tt
+
+module _ (IsFirst : List ℕ → Type 0) (IsSaid : Bool → List ℕ → List ℕ → Type 0) (old heard new : Option (List ℕ)) where
+  -- the whole output was written, and then the error lines
+  pub told_so : (said text : List ℕ) (well : Bool) (r : Result Bool ToolError) (after : Option (List ℕ)) → Appends old new said → IsFirst said → IsSaid well said text → SaysLines text well heard r after → SaysSent IsFirst IsSaid old heard r new after
+  told_so said text well (Ok answer) after out first is h = (said, text, subst (λ w. IsSaid w said text) (sym h.0) is, out, h.1)
+  told_so said text well (Err e) after out first is (inl none) = inl (said, [], subst IsFirst (sym (append-nil said)) first, inl refl, out, none)
+  told_so said text well (Err e) after out first is (inr h) = inr (well, said, h.0, h.1, subst (IsSaid well said) (sym h.2) is, h.3, out, h.4)
+
+  -- the run broke off after what was written
+  pub stopped_so : (said : List ℕ) (r : Result Bool ToolError) (e : ToolError) (after : Option (List ℕ)) → Appends old new said → IsFirst said → r ≡ Err e → after ≡ heard → SaysSent IsFirst IsSaid old heard r new after
+  stopped_so said r e after out first is same =
+      let at : SaysSent IsFirst IsSaid old heard (Err e) new heard = inl (said, [], subst IsFirst (sym (append-nil said)) first, inl refl, out, Appends-nil heard) in
+      subst (λ x. SaysSent IsFirst IsSaid old heard x new after) (sym is) (subst (λ x. SaysSent IsFirst IsSaid old heard (Err e) new x) (sym same) at)
+
+  -- or within the next piece
+  pub broke_so : (mid : Option (List ℕ)) (said text : List ℕ) (r : Result Bool ToolError) (e : ToolError) (after : Option (List ℕ)) → Appends old mid said → IsFirst said → IsFirst (said ++ text) → BreaksLine (λ out. out ≡ text) mid new e → r ≡ Err e → after ≡ heard → SaysSent IsFirst IsSaid old heard r new after
+  broke_so mid said text r e after out first more h is same =
+      subst (λ x. SaysSent IsFirst IsSaid old heard x new after) (sym is) (subst (λ x. SaysSent IsFirst IsSaid old heard (Err e) new x) (sym same) (by h))
+    where
+      by : BreaksLine (λ out. out ≡ text) mid new e → SaysSent IsFirst IsSaid old heard (Err e) new heard
+      by (inl none) = inl (said ++ [], [], subst IsFirst (sym (append-nil (said ++ []) ∙ append-nil said)) first, inl refl, Appends-trans old mid new said [] out none, Appends-nil heard)
+      by (inr k) = inl (said ++ k.0, k.1, subst IsFirst (ap (λ l. said ++ l) (sym k.2) ∙ sym (append_assoc said k.0 k.1)) more, inr k.3, Appends-trans old mid new said k.0 out k.4, Appends-nil heard)
+
+front_nil : (front back : List ℕ) → front ++ back ≡ [] → front ≡ []
+front_nil [] back e = refl
+front_nil (x ∷ front) back e = absurd (cc e)
+
+-- no output, and an error line
+pub both_sent : (IsFirst : List ℕ → Type 0) (IsSaid : Bool → List ℕ → List ℕ → Type 0) (lines text : List ℕ) (well : Bool) (old heard : Option (List ℕ)) (r : Result Bool ToolError) (new after : Option (List ℕ)) → lines ≡ [] → IsFirst [] → IsSaid well [] text → SaysBoth (λ w said told. (w ≡ well) × (said ≡ lines) × (told ≡ text)) old heard r new after → SaysSent IsFirst IsSaid old heard r new after
+both_sent IsFirst IsSaid lines text well old heard r new after none first is h =
+    by r (both_said (λ w said told. IsSaid w said told × (said ≡ [])) lines text well old heard r new after (subst (λ l. IsSaid well l text) (sym none) is, none) h)
+  where
+    by : (x : Result Bool ToolError) → SaysBoth (λ w said told. IsSaid w said told × (said ≡ [])) old heard x new after → SaysSent IsFirst IsSaid old heard x new after
+    by (Ok w) k = (k.0, k.1, k.2.0, k.3, k.4)
+    by (Err e) (inl k) = inl ([], [], first, inl refl, k.0, k.1)
+    by (Err e) (inr k) = inr (k.0, k.1, k.3, k.4, subst (λ s. IsSaid k.0 s (k.3 ++ k.4)) (k.5.1 ∙ sym (front_nil k.1 k.2 k.5.1)) k.5.0, k.6, k.7, k.8)
+
+-- what holds of one answer holds of the other
+pub sent_as : (P Q : List ℕ → Type 0) (R S : Bool → List ℕ → List ℕ → Type 0) (old heard : Option (List ℕ)) (r : Result Bool ToolError) (new after : Option (List ℕ)) → ((out : List ℕ) → P out → Q out) → ((well : Bool) (said told : List ℕ) → R well said told → S well said told) → SaysSent P R old heard r new after → SaysSent Q S old heard r new after
+sent_as P Q R S old heard (Ok w) new after f g k = (k.0, k.1, g w k.0 k.1 k.2, k.3, k.4)
+sent_as P Q R S old heard (Err e) new after f g (inl k) = inl (k.0, k.1, f (k.0 ++ k.1) k.2, k.3, k.4, k.5)
+sent_as P Q R S old heard (Err e) new after f g (inr k) = inr (k.0, k.1, k.2, k.3, g k.0 k.1 (k.2 ++ k.3) k.4, k.5, k.6, k.7)
+
+-- nothing was written
+pub none_said : (IsFirst : List ℕ → Type 0) (IsSaid : Bool → List ℕ → List ℕ → Type 0) (old heard : Option (List ℕ)) (r : Result Bool ToolError) (e : ToolError) → IsFirst [] → IsErrAnd r (λ x. x ≡ e) → SaysSent IsFirst IsSaid old heard r old heard
+none_said IsFirst IsSaid old heard (Ok w) e first is = absurd is
+none_said IsFirst IsSaid old heard (Err x) e first is = inl ([], [], first, inl refl, Appends-nil old, Appends-nil heard)

@@ -1,5 +1,0 @@
-pub mod Telling
-pub mod Reading
-pub mod Wording
-pub mod Spelled
-pub mod AsJson

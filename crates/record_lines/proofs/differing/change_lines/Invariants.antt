@@ -1,7 +1,0 @@
-use Rattle.std.proofs.Common.{◌≡◌, take, flat_map}
-use Rattle.atproto_mst.specs.Changes.{changes}
-use Rattle.record_lines.specs.Differing.{change_line}
-use Rattle.record_lines.proofs.differing.change_lines.Given as goal
-
-abbrev pub invariant-loop-change : goal.invariant-loop-change
-invariant-loop-change l = l.lines.items ≡ flat_map change_line (changes (take l.change-index l.found))

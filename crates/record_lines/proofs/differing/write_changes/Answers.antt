@@ -1,9 +1,0 @@
-use Rattle.std.proofs.Common.{sym, subst}
-use Rattle.held_lines.proofs.Known.{if_some}
-use Rattle.block_lines.proofs.Saying.{both_said}
-use Rattle.record_lines.specs.Differing.{IsChangesOf}
-use Rattle.record_lines.proofs.differing.write_changes.Goals as goal
-
-pub returns-in-Ok : goal.returns-in-Ok
-returns-in-Ok g c = if_some (g.R.Read.remaining c.args.old.now) c.in-Ok.ensures (λ b k. if_some (g.S.Read.remaining c.args.new.now) k (λ d h.
-    both_said (IsChangesOf b d) c.in-Ok.said.0.items c.deref.result.now c.in-Ok.said.1 _ _ c.say_both.result _ _ (subst (λ text. IsChangesOf b d c.in-Ok.said.1 c.in-Ok.said.0.items text) (sym c.deref.ensures.value) h) c.say_both.ensures))

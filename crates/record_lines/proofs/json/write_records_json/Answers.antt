@@ -1,9 +1,0 @@
-use Rattle.std.proofs.Common.{sym, subst}
-use Rattle.held_lines.proofs.Known.{if_some}
-use Rattle.block_lines.proofs.Saying.{both_said}
-use Rattle.record_lines.specs.Json.{IsRecordsJson}
-use Rattle.record_lines.proofs.json.write_records_json.Goals as goal
-
-pub returns-in-Ok : goal.returns-in-Ok
-returns-in-Ok g c = if_some (g.R.Read.remaining c.args.input.now) c.in-Ok.ensures (λ b h.
-    both_said (IsRecordsJson b) c.in-Ok.said.0.items c.deref.result.now c.in-Ok.said.1 _ _ c.say_both.result _ _ (subst (IsRecordsJson b c.in-Ok.said.1 c.in-Ok.said.0.items) (sym c.deref.ensures.value) h) c.say_both.ensures)

@@ -1,6 +1,0 @@
-use Rattle.std.proofs.Common.{◌≡◌, map}
-use Rattle.section_lines.specs.Kept.{others}
-use Rattle.section_lines.proofs.kept.others.Given as goal
-
-abbrev pub invariant-loop-name : goal.invariant-loop-name
-invariant-loop-name l = l.left.items ≡ others (map (λ r. r.now) l.yielded) l.found.keys

@@ -1,8 +1,0 @@
-use Rattle.std.proofs.Common.{rules}
-use Rattle.dagcbor_items.specs.Walks.{forms}
-use Rattle.dagcbor_car.specs.Car.{header_bytes}
-use Rattle.section_lines.proofs.Sending.{front_sent}
-use Rattle.section_lines.proofs.send.send_header.Goals as goal
-
-pub returns-in-Write : goal.returns-in-Write
-returns-in-Write g c = front_sent (header_bytes (forms c.args.roots.now)) c.new-writer.result c.push_header-sent.new.writer c.in-Err.error c.in-Write.field-0 _ _ c.in-Err.ensures.written c.in-Write.is (search rules) (search rules)

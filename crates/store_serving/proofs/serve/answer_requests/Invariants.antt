@@ -1,9 +1,0 @@
-use Rattle.std.proofs.Common.{List}
-use Rattle.std.specs.Io.KnownBytes.{Appends}
-use Rattle.store_serving.specs.Serving.{Exchange, AreExchanged, answers}
-use Rattle.store_serving.proofs.serve.answer_requests.Given as goal
-
-abbrev pub invariant-loop-count : goal.invariant-loop-count
-invariant-loop-count g l = (xs : List Exchange)
-    × AreExchanged g.S.Store xs (g.R.Read.remaining l.fn.requests) l.fn.store (g.R.Read.remaining l.requests) l.store
-    × Appends (g.W.Write.contents l.fn.answers) (g.W.Write.contents l.answers) (answers xs)

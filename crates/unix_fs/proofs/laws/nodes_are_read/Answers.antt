@@ -1,5 +1,0 @@
-use Rattle.unix_fs.proofs.Nodes.{nodes_read}
-use Rattle.unix_fs.proofs.laws.nodes_are_read.Goals as goal
-
-pub returns : goal.returns
-returns c = nodes_read

@@ -155,7 +155,7 @@ def derives(section):
     columns = ["a derive", "by hand", "a derive / by hand", "serde_cbor's derive", "a derive / serde_cbor's"]
     section.head("The record, instructions a call", *columns[: 5 if folder else 3])
     for name, derived, by_hand, theirs in DERIVED:
-        one = counted(ours, f"dagcbor_serde::{derived}", RECORD)
+        one = counted(ours, f"types_serde::{derived}", RECORD)
         others = [counted(ours, by_hand, RECORD)] + ([counted(f"{folder}/calls", theirs, RECORD)] if folder else [])
         section.row(name, f"{one:,}", *(cell for it in others for cell in (f"{it:,}", ratio(one, it))))
 

@@ -13,7 +13,7 @@ import sys
 
 ROOT = pathlib.Path(__file__).resolve().parent.parent
 PAGE = ROOT / "docs" / "PROGRAMS.md"
-SOURCES = {"dagcar": "crates/dagcar_lines/src/help.rt", "dagstore": "crates/dagstore_lines/src/words.rt"}
+SOURCES = {"dagcar": "crates/program_dagcar/src/help.rt", "dagstore": "crates/program_dagstore/src/words.rt"}
 DOES = {"dagcbor": "judge blocks of DAG-CBOR, a line each", "dagcar": "judge, show and make blocks, and CAR files",
         "dagstore": "keep blocks in a file that lasts"}
 HEADERS = {"dagcbor": "crates/dagcbor_ffi/include/dagcbor.h", "dagcbor_memory": "crates/dagcbor_memory_ffi/include/dagcbor_memory.h"}

@@ -3,7 +3,7 @@
 import building
 from expected import RUNS
 
-USES = ["serde_ipld_dagcbor", "dagcbor_blocks", "ipld_links", "dagcbor_car", "dagcbor_serde", "serde", "arrayvec"]
+USES = ["serde_ipld_dagcbor", "dagcbor_blocks", "ipld_links", "files_car", "types_serde", "serde", "arrayvec"]
 
 
 def judge(lines, report):

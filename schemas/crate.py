@@ -12,7 +12,7 @@ from schemas.typescript import TypeScript
 
 LANGUAGES = {"python": Python, "typescript": TypeScript}
 MADE = "by ./dagcbor-types"
-STANDS_ON = "serde_ipld_dagcbor dagcbor_schema dagcbor_read"
+STANDS_ON = "serde_ipld_dagcbor types_schema dagcbor_read"
 
 
 class CrateError(Exception):

@@ -47,20 +47,20 @@ WORDS = {
     LIBRARY + "Collections": "finishing list_of all_of map_of first_then optional_then no_more",
     LIBRARY + "Structs": "required_field omissible_field no_fields no_other_fields struct_shape",
     LIBRARY + "EnumViews": "EnumShape enum_of",
-    "Rattle.dagcbor_schema.specs.ToldValues": "told_by_number",
-    "Rattle.dagcbor_schema.specs.Kinds": "by_kind no_kind",
-    "Rattle.dagcbor_schema.specs.declared.by_kind.ByKind": "ByKind",
-    "Rattle.dagcbor_schema.specs.Envelopes": "envelope_of",
-    "Rattle.dagcbor_schema.specs.Implied": "implied unless_implied",
-    "Rattle.dagcbor_schema.specs.Pairs": "text_and_value named",
-    "Rattle.dagcbor_schema.specs.Parts": "optional_part",
-    "Rattle.dagcbor_schema.specs.Members": "there absent",
-    "Rattle.dagcbor_schema.specs.WrittenGroups": "field_before optional_before none_before",
+    "Rattle.types_schema.specs.ToldValues": "told_by_number",
+    "Rattle.types_schema.specs.Kinds": "by_kind no_kind",
+    "Rattle.types_schema.specs.declared.by_kind.ByKind": "ByKind",
+    "Rattle.types_schema.specs.Envelopes": "envelope_of",
+    "Rattle.types_schema.specs.Implied": "implied unless_implied",
+    "Rattle.types_schema.specs.Pairs": "text_and_value named",
+    "Rattle.types_schema.specs.Parts": "optional_part",
+    "Rattle.types_schema.specs.Members": "there absent",
+    "Rattle.types_schema.specs.WrittenGroups": "field_before optional_before none_before",
 }
 
 # Where each word of the code stands.
 HOMES = {
-    "dagcbor_schema": """ByKind Enveloped InGroups Made NoKind Numbered OneGroup OptionalPart Part WrittenGroup of_name read_enveloped
+    "types_schema": """ByKind Enveloped InGroups Made NoKind Numbered OneGroup OptionalPart Part WrittenGroup of_name read_enveloped
         read_made read_numbered unless_meant write_parts""",
     "serde_ipld_dagcbor": """Accessor Bytes Cid Closed DecodeError Deserialize DeserializeOwned Deserializer EnumAccessor Field FieldGroup
         Ipld Omissible OmissibleItem Optional Read ReadResult Required Serialize Serializer Shown Variants Write WriteResult read_enum
@@ -68,7 +68,7 @@ HOMES = {
     "std::alloc": "Global",
     "std::collections": "BTreeMap",
 }
-KINDS_PATH = "Rattle.dagcbor_schema.specs.declared.by_kind.ByKind.TheVariants as kinds"
+KINDS_PATH = "Rattle.types_schema.specs.declared.by_kind.ByKind.TheVariants as kinds"
 LETTERS = {"ℕ": "ℕ", "ℤ": "ℤ", "^": "◌^◌", "[]": "[]", "∷": "◌∷◌", "if": "if◌then◌else◌"}
 PUNCTUATION = str.maketrans({char: " " for char in "();,={}⟦⟧<>|[].λ:"})
 
@@ -795,7 +795,7 @@ class Module:
 
     def enveloped_impl(self, one, body):
         parameters = ["alloc: Global", "tag: &str", "entries: &mut Accessor<'de>", DE]
-        tactic = "    #[tactic(auto, using(dagcbor_schema::proofs::EnvelopeFronts::content_not_read))]"
+        tactic = "    #[tactic(auto, using(types_schema::proofs::EnvelopeFronts::content_not_read))]"
         read = function("read_content<R: Read>", parameters, f"ReadResult<{one.name}, R>", body)
         return impl(f"<'de> Enveloped<'de> for {one.name}", *seen_as(one, self.union_meaning(one), "variants"), [tactic, *read])
 
@@ -883,7 +883,7 @@ class Module:
             call = f"c.of_name{f'-{number}' if number > 1 else ''}.ensures"
             steps.append(f"    let taken{number} = taken_under _ _ _ (sym {call} ∙ c.in_ok-{field_name(field.name)}.was) in")
             opened += f"rw (taken{number}.0, taken{number}.1) ("
-        uses = [f"use Rattle.std.proofs.Common.{{◌∙◌, {word}, sym}}", "use Rattle.dagcbor_schema.proofs.PairNames.{taken_under}"]
+        uses = [f"use Rattle.std.proofs.Common.{{◌∙◌, {word}, sym}}", "use Rattle.types_schema.proofs.PairNames.{taken_under}"]
         rows = ["", "pub returns : goal.returns", "returns c =", *steps, f"    {opened}{end}{')' * len(steps)}"]
         return self.file_of(struct, "Made.of_parts", f"What the pairs of {struct.name} make", uses, rows)
 
@@ -934,7 +934,7 @@ class Module:
             rows += self.untold_rows(union, words)
         uses = self.union_uses(union, rows, [f"{snake(union.name)}_part"] if untold else [], cases)
         lemmas = [word for word in ("content_shown", "content_handed_on") if any(word in row for row in rows)]
-        uses += split("use Rattle.dagcbor_schema.proofs.EnvelopeFronts.", lemmas, "")
+        uses += split("use Rattle.types_schema.proofs.EnvelopeFronts.", lemmas, "")
         if untold:
             uses += ["use Rattle.dagcbor_read.proofs.FieldPlaces.{other_name}", *UNTOLD_USES]
         return self.file_of(union, "Enveloped.read_content", f"The members of {union.name}", uses, rows)
@@ -993,7 +993,7 @@ class Module:
                 f"    refl (λ t. refl) (λ t. refl) (λ h. h) (λ lends h. {lacks}) c.requires.sound c.in_err-x-in-{word}.ensures.part",
             )
         uses = self.union_uses(union, rows, [], union.cases)
-        uses += ["use Rattle.dagcbor_read.specs.Enums.{enum_state}", "use Rattle.dagcbor_schema.proofs.VariantFronts.{held_handed_on}"]
+        uses += ["use Rattle.dagcbor_read.specs.Enums.{enum_state}", "use Rattle.types_schema.proofs.VariantFronts.{held_handed_on}"]
         return self.file_of(union, "Variants.read_variant", f"The members of {union.name} whose values are refused", uses, rows)
 
     def one_member_answers(self, union):

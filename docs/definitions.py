@@ -24,7 +24,7 @@ IMPORT = re.compile(r"^(?:ghost |pub )?use Rattle\.(\w+)\.specs\.(\w+)\.\{(.*)\}
 READ_BY_PARTS = [
     ("structs", ["shape", "meaning", "finish"]),
     ("row", ["shape", "meaning"]),
-    ("group", ["own_shape", "own_meaning", "own_finish", "behind", "shape_before", "shows", "finish_before",
+    ("group", ["own_shape", "own_meaning", "own_finish", "following", "shape_before", "shows", "finish_before",
                "shape", "meaning", "finish"]),
 ]
 
@@ -73,7 +73,7 @@ SENTENCES = [
      ["atproto_events/src/frame.rt fn read_frame", "atproto_events/src/verify.rt fn verify_event"]),
     ("`dagcar event` says what frames tell, one after the other", ["program_events/src/command.rt fn run_events"]),
     ("A CAR file that is written is read back",
-     ["dagcbor_car/src/laws.rt fn cars_are_written", "dagcbor_car/src/laws.rt fn cars_read_back"]),
+     ["files_car/src/laws.rt fn cars_are_written", "files_car/src/laws.rt fn cars_read_back"]),
     ("What one store writes as a file, an empty one reads as the same blocks",
      ["dagcbor_blocks/src/read_car.rt fn read_car", "dagcbor_blocks/src/write_car.rt fn write_car",
       "dagcbor_blocks/src/laws.rt fn written_then_read"]),

@@ -23,37 +23,39 @@ const HELP: &str = "usage: dagcar check [--summary] [FILE]
        dagcar check|list --index FILE
        dagcar event [FILE]
 
-Of a CAR file (version 1 or 2); without FILE, or with -, standard input:
-  check    the verdict on each block, and which links lead nowhere; --summary counts them;
-           the index of a named file is judged too, and --index judges that alone
-  inspect  what it holds, in numbers; --json writes them as JSON
-  verify   the verdicts alone
-  list     the roots, and the length of each block; --index lists an index
-  get      the block of a name
-  tree     the file of the blocks that links lead to
-  at       the data that a path leads to, as DAG-JSON; --raw writes its bytes
-  prove    the file of the blocks on a path, over which at answers the same
-  ls       the entries of the directory of IPFS that a path of names leads to
-  cat      the bytes of the file that it leads to
-  records  the keys of a repository's records (AT Protocol), and their CIDs; --json writes
+CAR files (version 1 or 2); FILE may be left out, or be -, for standard input:
+  check    validate each block, and report links to missing blocks; --summary counts them;
+           for a named FILE also validate its index, and with --index only that
+  inspect  count what the file holds; --json writes the counts as JSON
+  verify   validate each block
+  list     list the roots, and the CID and length of each block; --index lists the index
+  get      write the block with this CID
+  tree     write a CAR file of the blocks that links lead to from this CID
+  at       write the data at this path as DAG-JSON; --raw writes its bytes
+  prove    write a CAR file of the blocks on this path, from which at gives the same answer
+  ls       list the IPFS directory at this path of names
+  cat      write the IPFS file at this path of names
+  records  list the keys and CIDs of a repository's records (AT Protocol); --json writes
            each record's CID, key and data as a line of DAG-JSON
-  record   the record of a key, as DAG-JSON
-  record-proof  the file of the blocks that decide which record a key has, or that it has none
-  commit   what a repository's commit says
-  changes  the keys whose records differ between two repositories, and their CIDs
-  filter   the file of the blocks of a codec, or of the CIDs in a list
-  merge    one file of the blocks of several, each verified block once
-  split    files of the blocks in order, PREFIX-0.car and so on, each of at most so many bytes
-  index    the same file with an index, in version 2; get and at look blocks up there
+  record   write the record with this key as DAG-JSON
+  record-proof  write a CAR file of the blocks that prove the record with this key, or that
+           there is none
+  commit   show the commit of a repository
+  changes  list the keys whose records differ between two repositories, and their CIDs
+  filter   write a CAR file of the blocks with this codec, or with the CIDs in a list
+  merge    write one CAR file of the valid blocks of several, each block once
+  split    write the blocks in order to PREFIX-0.car, PREFIX-1.car and so on, files of at
+           most BYTES bytes, or of one block
+  index    write the same file in version 2 with an index, by which get and at find blocks
 
-Of frames of a repository host's stream (AT Protocol), one after the other:
-  event    the commit of each, verified from its frame alone, and the changes that it makes
+Frames of the event stream of a repository host (AT Protocol), one after another:
+  event    verify each commit from its frame alone, and list the changes that it makes
 
-Of a block of DAG-CBOR:
-  name     its CID
-  one      its kind
-  show     its data as DAG-JSON
-  make     the other way: the block of data in DAG-JSON
+Blocks of DAG-CBOR:
+  name     write the CID of the block
+  one      validate the block, and write its kind
+  show     write the data of the block as DAG-JSON
+  make     the reverse of show: write the block of data in DAG-JSON
 
 For example:
   dagcar check blocks.car
@@ -62,7 +64,7 @@ For example:
   dagcar at --raw CID/a/0 proof.car | dagcar one
   dagcar records repo.car
 
-The status is 0 where nothing is wrong, 1 where something is, 2 where it could not be told.
+The exit status is 0 if all is well, 1 if something is wrong, 2 if the command did not finish.
 ";
 
 /// What `--version` writes.

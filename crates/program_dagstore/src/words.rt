@@ -15,41 +15,41 @@ pub const HELP: &str = "usage: dagstore FILE import [SOURCE]
        dagstore FILE roots|check|list|count
        dagstore FILE serve
 
-Into the file, which these two make where there is none:
-  import   the blocks of a CAR file (version 1 or 2), all or none; without SOURCE, or
-           with -, of standard input
-  put      the block on standard input, under its name, which is written
+Write to the store FILE, which import and put create if it does not exist:
+  import   add the blocks of a CAR file (version 1 or 2), all or none; SOURCE may be left out,
+           or be -, for standard input
+  put      add the block on standard input, and write its CID
 
-Out of the file:
-  export   the file of all blocks (CAR, version 1), with these roots; without CIDs, with those
-           that are stored
-  get      the block of a name
-  at       the data that a path leads to from a block, as DAG-JSON; --raw writes its bytes
-  ls       the entries of the directory of IPFS that a path of names leads to
-  cat      the bytes of the file of IPFS that a path of names leads to
-  has      nothing: the status is 0 where something is listed under the name, else 1
-  tree     the file of the blocks that links lead to
-  check    the verdict on each block, and which links lead nowhere
-  list     the length of each block
-  count    how many names are listed
-  roots    the roots that are stored, in their order
+Read from it:
+  export   write a CAR file (version 1) of all blocks, with these roots; without CIDs, with the
+           stored roots
+  get      write the block with this CID
+  at       write the data at this path as DAG-JSON; --raw writes its bytes
+  ls       list the IPFS directory at this path of names
+  cat      write the IPFS file at this path of names
+  has      write nothing; the exit status is 0 if the CID is listed, else 1
+  tree     write a CAR file of the blocks that links lead to from this CID
+  check    validate each block, and report links to missing blocks
+  list     list the CID and length of each block
+  count    write how many CIDs are listed
+  roots    list the stored roots, in order
 
-Changes:
-  remove     what is listed under the names is taken out
-  gc         all is taken out that no link leads to from these names; without CIDs, from the roots
-             that are stored
-  add-root   the names are stored as roots, following the others
-  drop-root  the names are roots no more; the blocks under them stay
+Change it:
+  remove     remove the blocks with these CIDs
+  gc         remove all blocks to which no link leads from these CIDs; without CIDs, from the
+             stored roots
+  add-root   store these CIDs as roots, after the others
+  drop-root  these CIDs are roots no longer; their blocks stay
 
 For another program:
-  serve      answers requests on standard input, one after the other, until it ends; makes the
-             file where there is none
+  serve      answer requests on standard input, one after another, until it ends; create FILE
+             if it does not exist
 
 For example:
   dagstore blocks.db import blocks.car
   dagstore blocks.db at CID/a/0
 
-The status is 0 where nothing is wrong, 1 where something is, 2 where it could not be told.
+The exit status is 0 if all is well, 1 if something is wrong, 2 if the command did not finish.
 ";
 
 /// What `--version` writes.

@@ -1,4 +1,4 @@
-//! Tests of `uses`, and examples of the calls that docs/TYPES.md lists.
+//! Tests of `types_by_hand`, and examples of the calls that docs/TYPES.md lists.
 #![tactic(auto)]
 
 #[cfg(test)]

@@ -1,4 +1,4 @@
-//! Tests of `cid_text`.
+//! Tests of `text_cid`.
 #![tactic(auto)]
 
 #[cfg(test)]

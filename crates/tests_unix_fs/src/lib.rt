@@ -1,4 +1,4 @@
-//! Tests of `unix_fs`.
+//! Tests of `files_unix_fs`.
 #![tactic(auto)]
 
 #[cfg(test)]

@@ -1,8 +1,8 @@
 //! DAG-CBOR, read and written with proofs, under the names of the crate `serde_ipld_dagcbor`.
 //!
 //! docs/TYPES.md lists the calls. This example is a test in
-//! `crates/tests_by_hand/src/tests/recipes.rt`. `agree` and `is_told` belong to the tests, and fail if
-//! the result differs:
+//! `crates/tests_by_hand/src/tests/recipes.rt`. `agree` and `is_told` belong to the tests, and fail
+//! if the result differs:
 //!
 //! ```rust
 //! let block = to_vec(alloc, &(-300i16, "a"))?;

@@ -34,9 +34,9 @@ pub fn repo_answer(alloc: Global, file: &[u8]) -> Result<Made, AllocError>
     }
 }
 
-/// Makes a block that describes the commit that the file's first root names: a map of `cid`, the link
-/// to it, and of all entries of `repo_answer` but `records`. If there is no commit, the line says why.
-/// Of the file's blocks only the commit's is needed.
+/// Makes a block that describes the commit that the file's first root names: a map of `cid`, the
+/// link to it, and of all entries of `repo_answer` but `records`. If there is no commit, the line
+/// says why. Of the file's blocks only the commit's is needed.
 pub fn commit_answer(alloc: Global, file: &[u8]) -> Result<Made, AllocError>
     ensures { IfOk result (IsMadeOrTold (IsCommitBlock file.now) (IsNoCommitFile file.now)) }
 {

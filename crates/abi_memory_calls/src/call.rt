@@ -37,8 +37,8 @@ pub fn put_repo(alloc: Global, file: &[u8], out: &mut [u8], needed: &mut usize) 
     put_answer(&repo_answer(alloc, file), out, needed)
 }
 
-/// Puts the block that describes the commit that the file's first root names, or the line that says why
-/// there is none.
+/// Puts the block that describes the commit that the file's first root names, or the line that says
+/// why there is none.
 #[tactic(auto, using(crate::proofs::Putting::put_so))]
 pub fn put_commit(alloc: Global, file: &[u8], out: &mut [u8], needed: &mut usize) -> i32
     ensures { IsCommitAnswer file.now out.old out.new needed.new result }
@@ -46,8 +46,8 @@ pub fn put_commit(alloc: Global, file: &[u8], out: &mut [u8], needed: &mut usize
     put_answer(&commit_answer(alloc, file), out, needed)
 }
 
-/// Puts the CAR file that proves which record the key has, or that it has none, or the line that says
-/// why there is none.
+/// Puts the CAR file that proves which record the key has, or that it has none, or the line that
+/// says why there is none.
 #[tactic(auto, using(crate::proofs::Putting::put_so))]
 pub fn put_proof(alloc: Global, file: &[u8], key: &[u8], out: &mut [u8], needed: &mut usize) -> i32
     ensures { IsProofAnswer file.now key.now out.old out.new needed.new result }

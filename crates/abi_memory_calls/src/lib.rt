@@ -1,5 +1,6 @@
-//! What the C library that takes memory does for its calls: DAG-JSON from and to blocks; repositories
-//! (AT Protocol), their commits, and files that prove a record; and the frames of a host's stream.
+//! What the C library that takes memory does for its calls: DAG-JSON from and to blocks;
+//! repositories (AT Protocol), their commits, and files that prove a record; and the frames of a
+//! host's stream.
 #![tactic(auto)]
 
 mod answer;

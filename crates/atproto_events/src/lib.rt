@@ -1,5 +1,6 @@
-//! Events of an AT Protocol repository host: the frames of its stream (`subscribeRepos`), and commits
-//! verified from them. The operations of a commit are undone on the nodes that its frame has.
+//! Events of an AT Protocol repository host: the frames of its stream (`subscribeRepos`), and
+//! commits verified from them. The operations of a commit are undone on the nodes that its frame
+//! has.
 #![tactic(auto)]
 
 mod blocks;

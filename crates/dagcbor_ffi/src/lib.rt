@@ -190,8 +190,8 @@ pub extern "C" fn dagcbor_car_span(bytes: &[u8], places: &mut [u64; 2]) -> i32
 }
 
 /// Reads the header, of version 1, that begins the bytes of a CAR file. Returns 0 if there is one:
-/// `following` becomes where the first section begins, and `needed` the length of its roots, packed as
-/// `dagcbor_links` packs links; if they all fit, they are put at the front of `out`; else `out`
+/// `following` becomes where the first section begins, and `needed` the length of its roots, packed
+/// as `dagcbor_links` packs links; if they all fit, they are put at the front of `out`; else `out`
 /// stays. Else it returns the number of the cause: -24 and -25 as for a section, that of the
 /// refusal if no block follows the length, and -27 if the block is not a header of roots and of
 /// version 1. Then `needed` becomes 0, and the rest stays.

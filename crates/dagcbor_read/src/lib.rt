@@ -1,7 +1,7 @@
 //! Reading values from DAG-CBOR.
 //!
-//! The examples here are taken from `src/tests/recipes.rt` of `tests_by_hand`. `agree` and `is_told`
-//! belong to the tests, and fail if the result differs:
+//! The examples here are taken from `src/tests/recipes.rt` of `tests_by_hand`. `agree` and
+//! `is_told` belong to the tests, and fail if the result differs:
 //!
 //! ```rust
 //! let block = to_vec(alloc, &(-300i16, "a"))?;

@@ -1,7 +1,7 @@
 //! Writing values as DAG-CBOR.
 //!
-//! The examples here are taken from `src/tests/recipes.rt` of `tests_by_hand`. `agree` belongs to the
-//! tests, and fails if the result differs:
+//! The examples here are taken from `src/tests/recipes.rt` of `tests_by_hand`. `agree` belongs to
+//! the tests, and fails if the result differs:
 //!
 //! ```rust
 //! let block = to_vec(alloc, &(-300i16, "a"))?;

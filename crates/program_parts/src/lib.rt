@@ -1,5 +1,5 @@
-//! What programs share: the lines of a file, of a block, of a path's end and of an IPFS file, and the
-//! blocks of a CAR file, taken section by section or held in memory.
+//! What programs share: the lines of a file, of a block, of a path's end and of an IPFS file, and
+//! the blocks of a CAR file, taken section by section or held in memory.
 #![tactic(auto)]
 
 mod codec;

@@ -1,5 +1,5 @@
-//! `records` and `record`: the records of a repository. The files and the expected lines are made by
-//! another program.
+//! `records` and `record`: the records of a repository. The files and the expected lines are made
+//! by another program.
 
 use crate::tests::dagcar::{fills, run_words};
 use std::alloc::Global;

@@ -163,28 +163,28 @@ key_stands None k t es f = refl
 key_stands (Some l) k t es f = f
 
 -- what refuses the entry after whole ones refuses them all
-after_entries : {E : Type 0} (es : Entries) (count steps : ℕ) (previous : Option (List ℕ)) (e : DecodeError E) (b c : List ℕ) → AreEntryFronts b es c → AllFollow previous es → entry_count es < count → entries_need es ≤ steps
+entries_from : {E : Type 0} (es : Entries) (count steps : ℕ) (previous : Option (List ℕ)) (e : DecodeError E) (b c : List ℕ) → AreEntryFronts b es c → AllFollow previous es → entry_count es < count → entries_need es ≤ steps
     → ((more : ℕ) → IsRefusal (entries_of (item_of steps) (suc more) (last_after previous es) c) e) → IsRefusal (entries_of (item_of steps) count previous b) e
 unfolding last_after
-after_entries es zero steps previous e b c f follow few need h = absurd (omega (arith, few))
-after_entries no_entries (suc count) steps previous e b c f follow few need h = subst (λ x. IsRefusal (entries_of (item_of steps) (suc count) previous x) e) (sym f.is) (h count)
-after_entries (entry k t es) (suc count) steps previous e b c f follow few need h =
+entries_from es zero steps previous e b c f follow few need h = absurd (omega (arith, few))
+entries_from no_entries (suc count) steps previous e b c f follow few need h = subst (λ x. IsRefusal (entries_of (item_of steps) (suc count) previous x) e) (sym f.is) (h count)
+entries_from (entry k t es) (suc count) steps previous e b c f follow few need h =
     let o = entry_opened b c k t es f in
     let a = entries_after b o.0 _ c k k t t es o.1 o.2 f in
     refused_then (key_of previous b) (λ key value. after (item_of steps value) λ t rest. after (entries_of (item_of steps) count (Some key) rest) λ es. got (entry key t es)) k o.0 e
     (key_read previous b k o.0 o.1 (key_stands previous k t es follow))
     (refused_then (item_of steps o.0) (λ t rest. after (entries_of (item_of steps) count (Some k) rest) λ es. got (entry k t es)) t _ e (any_reads steps o.0 t _ o.2 (omega (arith, need)))
-    (refused_after (entries_of (item_of steps) count (Some k) _) (λ es. got (entry k t es)) e (after_entries es count steps (Some k) e _ c a.3 a.2 (omega (arith, few)) (omega (arith, need)) h)))
+    (refused_after (entries_of (item_of steps) count (Some k) _) (λ es. got (entry k t es)) e (entries_from es count steps (Some k) e _ c a.3 a.2 (omega (arith, few)) (omega (arith, need)) h)))
 
 -- a key
 pub after_entries : {E : Type 0} (es : Entries) (count steps : ℕ) (e : DecodeError E) (b c : List ℕ) → AreEntryFronts b es c → entry_count es < count → entries_need es ≤ steps → KeyCause (last_key es) e c → EntriesCause count steps e b
-after_entries {E} es count steps e b c f few need h = after_entries es count steps None e b c f tt few need
+after_entries {E} es count steps e b c f few need h = entries_from es count steps None e b c f tt few need
     (λ more. refused_after (key_of (last_after None es) c) (λ key value. after (item_of steps value) λ t rest. after (entries_of (item_of steps) more (Some key) rest) λ es. got (entry key t es)) e
     (subst (λ p. KeyCause {E = E} p e c) (sym (last_of_all es)) h))
 
 -- a value
 pub after_key : {E : Type 0} (es : Entries) (count steps : ℕ) (key : List ℕ) (e : DecodeError E) (b c d : List ℕ) → AreEntryFronts b es c → entry_count es < count → entries_need es ≤ steps → IsFront c (text key) d → follows (last_key es) key ≡ true → ItemCause steps e d → EntriesCause count steps e b
-after_key {E} es count steps key e b c d f few need k follow h = after_entries es count steps None e b c f tt few need
+after_key {E} es count steps key e b c d f few need k follow h = entries_from es count steps None e b c f tt few need
     (λ more. refused_then (key_of (last_after None es) c) (λ key value. after (item_of steps value) λ t rest. after (entries_of (item_of steps) more (Some key) rest) λ es. got (entry key t es)) key d e
     (key_read (last_after None es) c key d k (subst (λ p. follows p key ≡ true) (sym (last_of_all es)) follow))
     (refused_after (item_of steps d) (λ t rest. after (entries_of (item_of steps) more (Some key) rest) λ es. got (entry key t es)) e h))

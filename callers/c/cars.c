@@ -44,7 +44,7 @@ static int32_t print_roots(Car *car, FILE *file) {
     return code;
 }
 
-/* Prints the next section; or answers why there is none. */
+/* Prints the next section; or returns why there is none. */
 static int32_t print_section(Car *car, FILE *file) {
     size_t places[3];
     int32_t code;

@@ -1,4 +1,4 @@
-// What is said of bytes, by the numbers of the library.
+// What is said about bytes, by the numbers of the library.
 'use strict';
 
 const KINDS = ['null', 'bool', 'integer', 'string', 'bytes', 'list', 'map', 'link'];

@@ -1,5 +1,11 @@
 /* Reads repositories by libdagcbor_memory_ffi.a: for each file the length of its answer, or the line that tells why it
-   is not one. */
+   is not one.
+
+     repo FILE..
+     repo -c FILE..      for the commit alone
+     repo -k KEY FILE..  for the file that proves which record the key has
+
+   The status is 0 if there is an answer for all. */
 #include "asking.h"
 #include <stdio.h>
 #include <string.h>

@@ -1,5 +1,7 @@
 /* What takes memory, for Node. It is an addon of its own, because its library takes memory and the
-   other does not. */
+   other does not. A thread of the pool reads a file, in memory that no script writes meanwhile.
+   While the library reads a frame no script runs, and memory that another thread may write is
+   refused. */
 #define _GNU_SOURCE // NOLINT: the C library names it so; for the place of a stack
 #include "addon.h"
 

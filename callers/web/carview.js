@@ -32,7 +32,7 @@ export class CarView {
     return this.sections.find(cid) !== undefined;
   }
 
-  // What is said of the file as a whole.
+  // The verdict on the file as a whole.
 
   summary() {
     this.banner = make('div.banner.is-note');
@@ -85,7 +85,7 @@ export class CarView {
     this.said.textContent = `${all} ${parts.length ? `${parts.join(', ')}.` : ''}`;
     if (fault) {
       const { name, asks } = faultOf(fault.code);
-      const where = ` At byte ${grouping(fault.at)}, where a section is to begin.`;
+      const where = ` At byte ${grouping(fault.at)}, where a section should begin.`;
       const text = `${where} ${asks} What is missing is not known.`;
       this.banner.append(make('p', make('code.name', name), text));
     }

@@ -70,7 +70,7 @@ def texts(page):
             same(page.text(".item .value"), wanted, given)
             same(page.text(".facts .cid"), cid_text(named(link(bytes.fromhex(binary)))), given)
         else:
-            assert page.text("#said").startswith("DAG-JSON. Line 1: no text of a CID: "), given
+            assert page.text("#said").startswith("DAG-JSON. Line 1: not the text of a CID: "), given
             assert "refused" not in page.text("#said") and not page.count(".banner"), given
     return f"{len(found)} texts"
 

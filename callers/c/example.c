@@ -1,5 +1,5 @@
-/* Three examples: a block is judged, gone through, and written. `example` runs them, and its status
-   is 0 where each answers as it says here. */
+/* Three examples: a block is judged, read, and written. `example` runs them, and its status is 0 if each answers as
+   this file says. */
 #undef NDEBUG
 #include "dagcbor.h"
 #include <assert.h>

@@ -1,10 +1,10 @@
 /* Makes each call that takes memory with the heap of faults/heap.c, which refuses each allocation in turn: then the
- * call is out of memory, and writes nothing.
+   call is out of memory, and writes nothing.
 
- *   memory FILE [FRAME]
+     memory FILE [FRAME]
 
- * It verifies the commit of the frame, reads the commit of a repository, proves a record of it, and reads it whole. If
- * it is one, the block that tells of it goes to DAG-JSON and back. It prints how many allocations each call made. */
+   It verifies the commit of the frame, reads the commit of a repository, proves a record of it, and reads it whole. If
+   it is one, the block that tells of it goes to DAG-JSON and back. It prints how many allocations each call made. */
 #undef NDEBUG
 #include "asking.h"
 #include <assert.h>

@@ -1,8 +1,7 @@
-/* Holds dagcbor_car_next, and car.h, which the packages for Python and Node stand on, over each
-   file of a table: walk FILES. Each file is cut once at each of its bytes: what is answered is what
-   the row says, at the same places. And each is put in one piece and in small ones, and then with
-   each allocation failing in turn: the answer is right, or there is no memory. So it is too where
-   the program computes digests. */
+/* Tests dagcbor_car_next, and car.h, on which the packages for Python and Node stand, with each file of a table: walk
+   FILES. Each file is cut once at each of its bytes: the answer is what the row says, at the same places. Each is also
+   put in one piece and in small ones, and then with each allocation failing in turn: the answer is right, or there is
+   no memory. That is also so if the program computes digests. */
 #include <stdlib.h>
 
 static long left; /* allocations that are granted; below 0 all */

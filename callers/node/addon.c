@@ -1,5 +1,5 @@
 /* The library for Node, by Node-API. No value of a block and no error of one is made here: a call
-   answers numbers, bytes or texts, and where the library refuses its number, which is below 0.
+   returns numbers, bytes or texts, and if the library refuses, its number, which is below 0.
 
    No script runs while the library reads the bytes of a Uint8Array. Memory that another thread may
    write is refused. */

@@ -1,5 +1,5 @@
-/* CAR files for Node: a thread of the pool goes through the sections that stand whole in the bytes
-   at hand, which car_walk.js keeps, and does not write meanwhile. It asks for one thing at a time. */
+/* CAR files for Node: a thread of the pool reads the sections that stand whole in the bytes at
+   hand, which car_walk.js keeps, and does not write meanwhile. It asks for one thing at a time. */
 #include "addon.h"
 
 #include "car.h"

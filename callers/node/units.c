@@ -1,5 +1,5 @@
-/* Texts between UTF-8 and the units of 16 bits that JavaScript has. They stand by themselves, since
-   the compiler makes slow code of them inside of others. */
+/* Texts between UTF-8 and the units of 16 bits that JavaScript has. They stand by themselves,
+   because the compiler makes slow code of them inside of others. */
 #include "addon.h"
 
 /* Puts the units of UTF-8 that is known to be such, each of which is a byte, and returns how many

@@ -32,7 +32,7 @@ def there_and_back(page):
 
 
 def typed(page):
-    """What is typed is spelled at once, key by key; keys are put in order; what is no DAG-JSON is said by its line."""
+    """What is typed is spelled at once, key by key; keys are put in order; what is not DAG-JSON is told by its line."""
     page.give("a0")
     page.tab("Edit")
     page.wait(MADE)

@@ -51,7 +51,7 @@ def before_fault(page):
 
 
 def pasted(page):
-    """Hexadecimal, base64, DAG-JSON, and what is none."""
+    """Hexadecimal, base64, DAG-JSON, and what is none of these."""
     for given, title in [("0x83 01\n02:03", "list"), ("gwECAw==", "list"), ('{"b": [], "a": null}', "map")]:
         page.give(given)
         assert page.text(".banner h2").endswith(f"A block: {title}"), given

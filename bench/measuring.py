@@ -170,8 +170,8 @@ def heap_of_call(program, call, block, library):
 
 
 def instructions(words, times, given=b"", right=None, function=None):
-    """Those of one call, by callgrind: of runs of so many calls, the first less the second, of which so many succeed. Of a
-    function they are those within it."""
+    """The instructions of one call, by callgrind: those of a run of the first number of calls less those of the second. `right` says
+    how many times each call succeeds. If a function is given, only instructions within it count."""
     within = [f"--toggle-collect={function}"] if function else []
     counts = []
     for n in times:

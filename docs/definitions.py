@@ -152,7 +152,7 @@ def reach(words, imports, own, found):
             continue
         found[key] = None
         reach(WORD.findall("\n".join(code)), at.imports, (crate, file), found)
-        # Dependencies come first: the key moves behind them.
+        # Dependencies come first: the key moves after them.
         del found[key]
         found[key] = len(chunk)
 

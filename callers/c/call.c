@@ -159,7 +159,7 @@ static int is_right_section(char *const field[3]) {
 static size_t told_place;
 static bool are_places;
 
-/* Where a header ends is told beside its roots; if no header begins the bytes it stays. */
+/* The end of a header is told beside its roots; if no header begins the bytes it stays. */
 static int32_t roots_of(const uint8_t *bytes, size_t length, uint8_t *out, size_t room,
                         size_t *needed) {
     size_t end = 99;

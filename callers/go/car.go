@@ -61,12 +61,9 @@ type Section struct {
 
 // CARReader gives the sections of a CAR file (version 1 or 2) one at a time. At most one is in memory, and no
 // memory is reserved from a length that the file announces.
-//
-// If SHA256 is set before Next, it computes the digests, and is trusted: sha256.Sum256 of crypto/sha256 is
-// faster than the library's own.
 type CARReader struct {
-	// SHA256, where it is set before Next, is what digests are computed by: sha256.Sum256 of
-	// crypto/sha256 is faster than the library's own, and is trusted then.
+	// If SHA256 is set before Next, it computes the digests, and is trusted: sha256.Sum256 of crypto/sha256
+	// is faster than the library's own.
 	SHA256 func([]byte) [32]byte
 
 	input // from the walk's place on

@@ -71,9 +71,9 @@ static napi_value read_tape(napi_env env, napi_callback_info info) {
     return array;
 }
 
-/* Makes the tokens of texts from there on those of parts of one text, whose units are put: how many
- * there are. It takes those alone whose units are bytes, or those alone that have others, and looks
- * at so many bytes. */
+/* Makes the tokens of texts from there on parts of one text, whose units it puts. Returns how many
+ * there are. It takes only those whose units are bytes, or only those that have others, and looks
+ * at no more bytes than this limit. */
 static size_t gather(const Own *own, size_t first, bool are_latin1, size_t most, uint16_t *units) {
     size_t count = 0;
     for (size_t i = first, looked = 0; i < own->count; i++) {
@@ -167,10 +167,11 @@ static napi_value spelt(napi_env env, const Spelling *it, uint8_t *out, size_t r
     return code < 0 ? number_of(env, code) : block;
 }
 
-/* spell(count, used, texts, into, from, first, words, payload): puts the payloads, out of the
- * texts, if there are any, of the tokens from the first on that have none. Without an array to put
- * it into it answers how many bytes of payloads there are; and else the block: its length, where it
- * is put there, and else an array of its own. The tape is that which is kept where none is given. */
+/* spell(count, used, texts, into, from, first, words, payload): puts the payloads, from the texts,
+ * if there are any, of the tokens from the first on that have none. Without an array to put the
+ * block into it returns how many bytes of payloads there are. Else it returns the block: its
+ * length, if it is put there, or an array of its own. If no tape is given it takes the one that is
+ * kept. */
 static napi_value spell(napi_env env, napi_callback_info info) {
     size_t argc = 8, length = 0;
     napi_value given[8];

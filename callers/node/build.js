@@ -20,7 +20,7 @@ const crateOf = (name) => join(__dirname, '../../crates', name);
 const machine = { x64: 'x86_64', arm64: 'aarch64' }[process.arch] ?? process.arch;
 const carriedOf = (name) => join(__dirname, 'lib', machine, name);
 
-// Where the library of a crate is, if it is there.
+// The path of the library of a crate, if it is there.
 const pathOf = (crate, variable) => {
   const carried = carriedOf(`lib${crate}.a`);
   const own = existsSync(carried) ? carried : join(crateOf(crate), `out/lib${crate}.a`);

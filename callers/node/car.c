@@ -110,7 +110,7 @@ static Walk *walk_of(napi_env env, napi_callback_info info, size_t count, napi_v
     return ((Walk *)walk)->is_busy ? raise(env, "the walk is already at work") : walk;
 }
 
-/* The script that computes SHA-256, of blocks of so many bytes or more. */
+/* The script that computes SHA-256, for blocks of this many bytes or more. */
 typedef struct {
     napi_env env;
     napi_value call;

@@ -10,7 +10,7 @@ const errors = require('./store_errors.js');
 
 const [CARRIED = 'dagstore'] = thereOf(programPaths);
 const LINE_FEED = 10;
-const ANSWER = /^(ok|none|refused|bad) (\d+)$/; // before so many bytes
+const ANSWER = /^(ok|none|refused|bad) (\d+)$/; // before this many bytes
 const HOW = 'name it, or set DAGSTORE, or put it on PATH';
 const missing = (program) => (existsSync(program)
   ? `the program ${program} is for another platform than this: ${HOW}`

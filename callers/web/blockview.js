@@ -82,7 +82,7 @@ export class BlockView {
     return parts;
   }
 
-  // Where a refused block stops, and where what is refused begins.
+  // The place where a refused block stops, and where what is refused begins.
   get fault() {
     if (this.isBlock || !this.items) return null;
     const last = this.shape.count - 1;

@@ -179,7 +179,7 @@ export class CarView {
 
   async walk() {
     const told = ({ batch, at }) => {
-      if (this.isEnded) return; // what comes behind Stop is not shown
+      if (this.isEnded) return; // what comes after Stop is not shown
       this.sections.add(batch);
       this.readTo = at;
       this.planned ??= setTimeout(() => this.refresh(), BETWEEN_LOOKS);

@@ -147,7 +147,7 @@ export class Explorer {
     return make('p.hint', 'Path ', make('bdi.path', path || '(empty)'), ' ', copy);
   }
 
-  // Where it stands, and of what it is made.
+  // Its place, and what it is made of.
   spread(token) {
     const { start, end, place } = this.shape;
     const { items, bytes } = this.block;

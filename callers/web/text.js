@@ -22,7 +22,7 @@ export const fromBase64 = (text) => {
   const plain = text.replace(/-/g, '+').replace(/_/g, '/').replace(/=+$/, '');
   if (!/^[A-Za-z0-9+/]*$/.test(plain) || plain.length % 4 === 1) return null;
   const units = atob(plain);
-  if (btoa(units).replace(/=+$/, '') !== plain) return null; // bits behind the last byte
+  if (btoa(units).replace(/=+$/, '') !== plain) return null; // bits after the last byte
   return Uint8Array.from(units, (it) => it.charCodeAt(0));
 };
 

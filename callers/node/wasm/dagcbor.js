@@ -168,7 +168,7 @@ const answering = (calls, room) => ({
   nodeLinks: (node) => told(room.take(calls.dagcbor_node_links, node, { few: node.length }), unpacked),
   // The number of a refusal, or the data model of a block of DAG-PB, as a block of DAG-CBOR.
   fromNode: (node) => room.take(calls.dagcbor_from_node, node),
-  // Where the fault stands for which bytes are not a block of DAG-PB.
+  // The place of the fault for which bytes are not a block of DAG-PB.
   placeInNode: (bytes) => {
     room.ask(calls.dagcbor_from_node, bytes);
     return room.number(1);

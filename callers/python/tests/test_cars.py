@@ -43,7 +43,7 @@ class Dripping(io.RawIOBase):
 
 
 class Large:
-    """A file that is asked, and is none of io's."""
+    """A file that is asked, and is not one of io's."""
 
     def __init__(self, pieces):
         self.pieces = iter(pieces)

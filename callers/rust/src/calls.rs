@@ -39,7 +39,7 @@ macro_rules! calls {
                 $($put: &mut $number,)*
             ) $(-> $answer)? {
                 // SAFETY: what goes in are slices and references. So pointers are not null, also
-                // those of empty slices, and aligned; so many elements stand there; nobody writes
+                // those of empty slices, and aligned; as many elements stand there; nobody writes
                 // shared ones, nobody else uses a unique one, and no two of these overlap. A slice
                 // has fewer than 2^63 bytes, and tokens are fewer than 2^58: an address has no
                 // more than 57 bits, and a token 24 bytes.

@@ -18,8 +18,8 @@ use {
 /// Those of a type's fields or variants.
 type Names = &'static [Name];
 
-/// By a newtype of this name serde's formats tell CIDs from bytes. That of the crate `cid` is the
-/// same, so its CIDs are read and written as links too.
+/// By a newtype of this name serde's formats tell CIDs from bytes. The crate `cid` has the same
+/// name, so its CIDs are read and written as links too.
 pub(crate) const CID_NAME: &str = "$__serde__private__identifier__for__cid";
 
 /// Options are in each other no deeper.
@@ -282,7 +282,7 @@ impl<'de> Source<'de> for &mut SliceReader<'de> {
     }
 }
 
-/// At least so many bytes of a reader are looked at, where it has them.
+/// The least number of bytes of a reader that are looked at, if it has them.
 #[cfg(feature = "std")]
 const PIECE: usize = 512;
 
@@ -727,7 +727,7 @@ impl<'de> de::SeqAccess<'de> for &mut Parts<'_, 'de> {
     }
 
     fn size_hint(&self) -> Option<usize> {
-        Some(self.left as usize) // at most so many as the block has bytes
+        Some(self.left as usize) // at most as many as the block has bytes
     }
 }
 

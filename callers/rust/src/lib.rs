@@ -27,7 +27,7 @@
 
 #![cfg_attr(not(feature = "std"), no_std)]
 #![warn(missing_docs, unsafe_op_in_unsafe_fn)]
-#![deny(unsafe_code)] // but for the calls of the library
+#![deny(unsafe_code)] // except for the calls of the library
 
 #[cfg(feature = "alloc")]
 extern crate alloc;

@@ -411,7 +411,7 @@ impl Writer {
 pub struct Parts<'a> {
     writer: &'a mut Writer,
     head: Range<usize>,
-    told: usize, // so many parts, in the head
+    told: usize, // the number of parts in the head
     count: usize,
     first: usize, // of its entries
     variant: Option<Name>,

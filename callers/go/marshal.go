@@ -18,7 +18,7 @@ import (
 const (
 	mostLevels   = 127
 	mostPointers = 1000
-	tooDeep      = "lists and maps are in each other too deep"
+	tooDeep      = "lists and maps are nested too deep"
 )
 
 type writer struct {

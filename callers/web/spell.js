@@ -90,7 +90,7 @@ class Reader {
   }
 
   value(depth) {
-    if (depth > DEPTH) this.fail('lists and maps are too deep in each other');
+    if (depth > DEPTH) this.fail('lists and maps are nested too deep');
     this.space();
     for (const [word, kind, number] of [['null', NULL, 0], ['true', BOOL, 1], ['false', BOOL, 0]]) {
       if (this.text.startsWith(word, this.at)) {

@@ -15,7 +15,7 @@ const REFUSALS = new Map([
     'The simple values are false (f4), true (f5) and null (f6). Floats are not read by this library, undefined and other simple values are in no block, a link’s tag is followed by a byte string, and additional information 28 to 30 is reserved.']],
   [-8, ['RequireUtf8', 'A text that is not UTF-8',
     'Each text, and each key, is valid UTF-8. The text whose last byte is marked is not.']],
-  [-12, ['DepthOverflow', 'Lists and maps too deep in each other',
+  [-12, ['DepthOverflow', 'Lists and maps nested too deep',
     'Reading takes a step for each leaf and two for each list or map around it, of 256: 127 lists in each other around an empty one are read, and 128 are not.']],
   [-14, ['TrailingData', 'Bytes after the item',
     'A block is exactly one item, and ends where the item ends.']],

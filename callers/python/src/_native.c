@@ -558,7 +558,7 @@ static int add_foreign_cid(Writer *writer, PyObject *given) {
     int done = -1;
     if (!bytes) return -1;
     if (!are_cid(bytes_of(bytes), length_of(bytes)))
-        refuse_value(writer, "InvalidCid", "its bytes are no CID", given);
+        refuse_value(writer, "InvalidCid", "its bytes are not a CID", given);
     else done = add_bytes(writer, DAGCBOR_LINK, bytes);
     Py_DECREF(bytes);
     return done;

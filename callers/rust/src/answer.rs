@@ -105,15 +105,15 @@ causes! {
     enum Refusal {
         -1 Msg "a link holds no CID",
         -3 Eof "the bytes end too early",
-        -4 Mismatch "a key that is no text, or another tag than that of a link",
+        -4 Mismatch "a key that is not a text, or another tag than that of a link",
         -5 Unsupported "a float or another simple value, a link without a byte string, or a reserved width",
         -8 RequireUtf8 "a text that is not UTF-8",
-        -12 DepthOverflow "lists and maps are in each other too deep",
+        -12 DepthOverflow "lists and maps are nested too deep",
         -14 TrailingData "bytes after the item",
         -15 IndefiniteSize "an indefinite length or a break",
         -16 NonMinimal "a number or a length in more bytes than it needs",
         -17 UnorderedKey "a key that does not come after the one before it",
-        -20 NoToken "a token that is none",
+        -20 NoToken "an invalid token",
         -26 InvalidCid "the bytes are no CID",
         -28 UnknownBase "the first character names no base that is read here",
         -29 TooLong "the text is longer than that of any CID",
@@ -142,7 +142,7 @@ causes! {
         -25 InvalidLength "a length is not in shortest form or too large",
         -26 InvalidCid "no name stands before a block",
         -27 OtherHeader "the header is not that of version 1",
-        -35 InvalidOffset "the offsets of version 2 are none",
+        -35 InvalidOffset "the offsets of version 2 are invalid",
         NoBlock(Refusal) "the header is no block"
     }
     /// Why bytes are not a CAR file, and where.
@@ -163,7 +163,7 @@ causes! {
         -58 NameNotText "the name of a link is not UTF-8",
         -59 NotANode "the data is not that of a DAG-PB node",
         -60 UnsortedLinks "the links are not sorted by their names",
-        NoBlock(Refusal) "the data is no block, or there is no room"
+        NoBlock(Refusal) "the data is not a block, or there is no room"
     }
     /// Why bytes are not a block of DAG-PB, and where.
     struct NodeRefused {

@@ -190,7 +190,7 @@ def instructions(words, times, given=b"", right=None, function=None):
 def built(crate, status=0):
     """The program of the crate. It is proved and built first if its sources changed, and ends on this `stdin`."""
     folder = f"{ROOT}/crates/{crate}"
-    print(f"{crate}: proving and building, which takes some minutes where it is not built", file=sys.stderr)
+    print(f"{crate}: proving and building, which takes some minutes if it is not built", file=sys.stderr)
     with open(f"{folder}/stdin", "rb") as given, open(f"{folder}/args", encoding="ascii") as args:
         words = ["rt", "run", "--", *args.read().split()]
         ran = subprocess.run(words, cwd=folder, stdin=given, capture_output=True, check=False)
@@ -209,7 +209,7 @@ def in_c(folder, source, *more):
 def heap_counter(folder):
     """The library that counts the live heap, or None."""
     if building.c_compiler() is None:
-        print("the heap is skipped, since there is no C compiler: cc, gcc or clang, or what CC names")
+        print("the heap is skipped, because there is no C compiler: cc, gcc or clang, or what CC names")
         return None
     return building.shared(f"{ROOT}/bench/preload.c", folder)
 
@@ -223,7 +223,7 @@ def in_cargo(folder, dependencies, programs, *sources):
             file.write(f'[[bin]]\nname = "{os.path.basename(name)}"\npath = "{ROOT}/bench/{name}.rs"\n')
     built_there = building.cargo_built(folder, *sources)
     if built_there is None:
-        print(f"the peer in Rust is skipped: it wants cargo, and {', '.join(sources)} in {building.REGISTRY}\n")
+        print(f"the peer in Rust is skipped: it needs cargo, and {', '.join(sources)} in {building.REGISTRY}\n")
     return built_there
 
 
@@ -235,7 +235,7 @@ def in_go(folder, source, library=None):
     words, folder = ["go", "build", "-o", program, f"{name}.go"], os.path.dirname(f"{ROOT}/bench/{source}")
     if shutil.which("go") and subprocess.run(words, cwd=folder, env=env, check=False).returncode == 0:
         return program
-    print(f"what is in Go is skipped: it wants go, and fxamacker/cbor in {GO_SOURCES}\n")
+    print(f"what is in Go is skipped: it needs go, and fxamacker/cbor in {GO_SOURCES}\n")
     return None
 
 

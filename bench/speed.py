@@ -149,7 +149,7 @@ def of_blocks(section):
 def derives(section):
     """The record as a type that derives, compared with the type by hand and serde_cbor's derive."""
     if not shutil.which("valgrind"):
-        print("\nderives are skipped, since there is no valgrind")
+        print("\nderives are skipped, because there is no valgrind")
         return
     folder, ours = peer(), built("dagcbor_bench")
     columns = ["a derive", "by hand", "a derive / by hand", "serde_cbor's derive", "a derive / serde_cbor's"]

@@ -12,8 +12,8 @@ typedef struct {
     size_t length;
 } Lent;
 
-/* What a call is given: bytes, and for a record its key, or for an event what is known. And what it returns: a number,
-   bytes, which the caller frees, and for a text a place. */
+/* What a call is given: bytes, and for a record its key, or for an event what is known. And what it
+   returns: a number, bytes, which the caller frees, and for a text a place. */
 typedef struct {
     Lent bytes, key, root, rev;
     int32_t code;

@@ -1,5 +1,6 @@
-/* Calls each export for each row of its table, except dagcbor_car_next, which walk.c has: call TABLE SECTIONS TEXTS
- * HEADERS SPANS PATHS SEGMENTS NODES MODELS. Prints the number of rows, or the row that gets another answer. */
+/* Calls each export for each row of its table, except dagcbor_car_next, which walk.c has: call
+ * TABLE SECTIONS TEXTS HEADERS SPANS PATHS SEGMENTS NODES MODELS. Prints the number of rows, or the
+ * row that gets another answer. */
 #include "rows.h"
 #include <inttypes.h>
 #include <stdbool.h>
@@ -118,8 +119,8 @@ static int is_right_path(char *const field[6]) {
     return place == wanted[0] && end == wanted[1];
 }
 
-/* A call for each segment, in the bytes of the item to which those before it lead. If one leads nowhere, or is refused,
- * the places stay. */
+/* A call for each segment, in the bytes of the item to which those before it lead. If one leads
+ * nowhere, or is refused, the places stay. */
 static int are_right_segments(char *const field[5]) {
     static uint8_t block[MOST], text[MOST];
     size_t length = from_hex(field[0], block, 0), begin = 0, end = length;
@@ -137,7 +138,8 @@ static int are_right_segments(char *const field[5]) {
     return begin == strtoull(field[3], NULL, 10) && end == strtoull(field[4], NULL, 10);
 }
 
-/* If no section begins the bytes, the places stay. For the name and the block of a section the verdict is the same. */
+/* If no section begins the bytes, the places stay. For the name and the block of a section the
+ * verdict is the same. */
 static int is_right_section(char *const field[3]) {
     static uint8_t bytes[MOST];
     size_t length = from_hex(field[0], bytes, 0), places[] = {99, 98, 97, 96};
@@ -189,7 +191,8 @@ static int is_right_span(char *const field[3]) {
     return memcmp(places, wanted, sizeof wanted) == 0;
 }
 
-/* A text is read as its CID, and the CID is written as its text. The CID without its last byte is refused. */
+/* A text is read as its CID, and the CID is written as its text. The CID without its last byte is
+ * refused. */
 static int is_right_text(char *const field[4]) {
     static uint8_t cid[MOST];
     size_t length = strcmp(field[0], "-") ? strlen(field[0]) : 0, count = from_hex(field[2], cid, 0);

@@ -1,6 +1,6 @@
-/* Reads a CAR file (of version 1 or 2) as its bytes come, and keeps the names in it. Not proved, and no part of the
-   library: dagcbor_car_next says what the bytes are, and nothing of a file is parsed here. It is for one thread at a
-   time, and takes its memory by malloc. */
+/* Reads a CAR file (of version 1 or 2) as its bytes come, and keeps the names in it. Not proved,
+   and no part of the library: dagcbor_car_next says what the bytes are, and nothing of a file is
+   parsed here. It is for one thread at a time, and takes its memory by malloc. */
 #ifndef DAGCBOR_CAR_H
 #define DAGCBOR_CAR_H
 
@@ -46,12 +46,12 @@ static inline bool bytes_add(Bytes *bytes, const uint8_t *more, size_t count) {
     return true;
 }
 
-/* What the program computes SHA-256 with, in place of the library. Returns if the block has the digest; below 0 if it
- * fails. */
+/* What the program computes SHA-256 with, in place of the library. Above 0 if the block has the digest, 0 if it does
+ * not, and below 0 if the call fails. */
 typedef int Digest(void *host, const uint8_t *block, size_t length, const uint8_t digest[32]);
 
-/* The file. At hand are `length` of its bytes at `bytes`, the first of which stands at `place` in the file. They lie in
- * `gathered`, unless they were lent. */
+/* The file. At hand are `length` of its bytes at `bytes`, the first of which stands at `place` in
+ * the file. They lie in `gathered`, unless they were lent. */
 typedef struct {
     const uint8_t *bytes;
     size_t length;
@@ -92,8 +92,8 @@ static inline void car_pass(Car *car) {
     car->place += count;
 }
 
-/* Takes bytes that follow. What is at hand stays at the front of what was gathered. When that grows it gets twice the
- * room: nothing is reserved from what a file says. */
+/* Takes bytes that follow. What is at hand stays at the front of what was gathered. When that grows
+ * it gets twice the room: nothing is reserved from what a file says. */
 static inline bool car_gather(Car *car, const uint8_t *more, size_t count) {
     Bytes *all = &car->gathered;
     car_pass(car);
@@ -108,8 +108,8 @@ static inline bool car_gather(Car *car, const uint8_t *more, size_t count) {
     return true;
 }
 
-/* Returns what comes next. Its places are counted from the bytes at hand, where they stay until the next call. It looks
- * at no more of them than this limit. */
+/* Returns what comes next. Its places are counted from the bytes at hand, where they stay until the
+ * next call. It looks at no more of them than this limit. */
 static inline int32_t car_next(Car *car, size_t most, uint32_t how, size_t places[3]) {
     car_pass(car);
     car->before = car->walk;
@@ -137,8 +137,8 @@ static inline int32_t car_header(Car *car) {
     return code;
 }
 
-/* The verdict on a section. If its CID is of version 1, of DAG-CBOR or raw bytes, by SHA-256, the program computes the
- * digest. */
+/* The verdict on a section. If its CID is of version 1, of DAG-CBOR or raw bytes, by SHA-256, the
+ * program computes the digest. */
 static inline int32_t car_verdict(const Car *car, const size_t places[3]) {
     const uint8_t *name = car->bytes + places[0], *block = car->bytes + places[1];
     size_t length = places[2] - places[1];
@@ -174,8 +174,8 @@ static inline size_t put_length(uint8_t *out, uint64_t length) {
     return at;
 }
 
-/* Names. Each is there once: a byte of its length, and its bytes. A bit of that byte says if a block of that name is
- * held; else the name is only wanted. */
+/* Names. Each is there once: a byte of its length, and its bytes. A bit of that byte says if a
+ * block of that name is held; else the name is only wanted. */
 typedef struct {
     Bytes packed;
     uint64_t *slots; /* where a name stands, counted from 1, and above it a part of its hash; or 0 */
@@ -346,8 +346,8 @@ static inline bool check_links(Check *check, const uint8_t *block, size_t length
     return names_want(&check->names, links->start, needed);
 }
 
-/* True if a CID by the identity hash holds its own block: what it ends with, after the byte that says how long. The
- * library says if that is the block of this name. */
+/* True if a CID by the identity hash holds its own block: what it ends with, after the byte that
+ * says how long. The library says if that is the block of this name. */
 static inline int32_t held_inside(const uint8_t *name, size_t length, size_t at) {
     if (name[at - 1] != length - at) return DAGCBOR_OTHER_BYTES;
     return dagcbor_verify(name, length, name + at, length - at);

@@ -1,5 +1,5 @@
-/* Three examples: a block is judged, read, and written. `example` runs them, and its status is 0 if each answers as
-   this file says. */
+/* Three examples: a block is judged, read, and written. `example` runs them, and its status is 0 if
+   each answers as this file says. */
 #undef NDEBUG
 #include "dagcbor.h"
 #include <assert.h>
@@ -26,7 +26,8 @@ static void judge(void) {
     assert(memcmp(name, "\x01\x71\x12\x20", 4) == 0);
 }
 
-/* Prints the item of the first token, and returns the token after it. No list or map is in more than 127 others. */
+/* Prints the item of the first token, and returns the token after it. No list or map is in more
+ * than 127 others. */
 static const dagcbor_token *print(FILE *to, const uint8_t *block, const dagcbor_token *token) {
     uint64_t count = token->number;
     const uint8_t *payload = block + token->place;
@@ -90,7 +91,8 @@ static uint8_t *spelled(const char *payloads, const dagcbor_token *tape, size_t 
 }
 
 static void write_one(void) {
-    /* For a text, its place in the payloads counts. Keys come in their order: the shorter first, then by their bytes. */
+    /* For a text, its place in the payloads counts. Keys come in their order: the shorter first,
+     * then by their bytes. */
     const char *payloads = "moretexthiyear\xff";
     dagcbor_token tape[] = {
         {DAGCBOR_MAP, 3, 0},       {DAGCBOR_STRING, 4, 0}, {DAGCBOR_LIST, 3, 0},

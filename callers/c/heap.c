@@ -1,4 +1,5 @@
-/* The heap of libdagcbor_memory_ffi.a, over that of C. A program with another heap defines these three calls over it. */
+/* The heap of libdagcbor_memory_ffi.a, over that of C. A program with another heap defines these
+ * three calls over it. */
 #include <stdlib.h>
 
 /* Says if there is memory, and where; if there is none, a pointer to anything but NULL. */

@@ -1,5 +1,5 @@
-/* Reads repositories by libdagcbor_memory_ffi.a: for each file the length of its answer, or the line that tells why it
-   is not one.
+/* Reads repositories by libdagcbor_memory_ffi.a: for each file the length of its answer, or the
+   line that tells why it is not one.
 
      repo FILE..
      repo -c FILE..      for the commit alone

@@ -9,7 +9,8 @@
 
 enum { MOST = 4096, LINE = 1 << 17 };
 
-/* The bytes of hexadecimal text, and how many. A '-' is none, and a ',' joins links, each packed after its length. */
+/* The bytes of hexadecimal text, and how many. A '-' is none, and a ',' joins links, each packed
+ * after its length. */
 static inline size_t from_hex(const char *text, uint8_t *out, int packed) {
     size_t count = 0, start = 0;
     unsigned byte;

@@ -1,7 +1,8 @@
-/* Tests dagcbor_car_next, and car.h, on which the packages for Python and Node stand, with each file of a table: walk
-   FILES. Each file is cut once at each of its bytes: the answer is what the row says, at the same places. Each is also
-   put in one piece and in small ones, and then with each allocation failing in turn: the answer is right, or there is
-   no memory. That is also so if the program computes digests. */
+/* Tests dagcbor_car_next, and car.h, on which the packages for Python and Node stand, with each
+   file of a table: walk FILES. Each file is cut once at each of its bytes: the answer is what the
+   row says, at the same places. Each is also put in one piece and in small ones, and then with each
+   allocation failing in turn: the answer is right, or there is no memory. That is also so if the
+   program computes digests. */
 #include <stdlib.h>
 
 static long left; /* allocations that are granted; below 0 all */
@@ -144,8 +145,8 @@ static char *put_section(char *out, const uint8_t *bytes, const size_t places[3]
     return put_hex(out, name, size) + sprintf(out + 2 * size, ":%zu:%" PRId32 ",", count, code);
 }
 
-/* What dagcbor_car_next answers for the file that is cut there, in the words of a row: all bytes are at hand once those
- * before the cut do not tell what comes next. */
+/* What dagcbor_car_next answers for the file that is cut there, in the words of a row: all bytes
+ * are at hand once those before the cut do not tell what comes next. */
 static void tell_cut(size_t cut, uint32_t how, char *told) {
     static char roots[2 * LONGEST], sections[2 * LONGEST];
     dagcbor_car_walk walk = {0, 0, 0, 0};

@@ -11,7 +11,8 @@ enum {
     SLICE = 1 << 22  /* of a file, that is checked before signals are asked for */
 };
 
-/* Where the bytes come from: a file's method `read`, or a buffer; and what computes SHA-256, or NULL. */
+/* Where the bytes come from: a file's method `read`, or a buffer; and what computes SHA-256, or
+ * NULL. */
 typedef struct {
     PyObject *read;
     PyObject *buffer;

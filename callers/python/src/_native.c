@@ -1,8 +1,9 @@
-/* The library for Python, by the limited API: it makes objects from the tokens of a block, and a block from objects,
-   which the library judges.
+/* The library for Python, by the limited API: it makes objects from the tokens of a block, and a
+   block from objects, which the library judges.
 
-   A call reads a `bytes`, which nobody writes. Any other buffer, which other threads and programs may write meanwhile,
-   is copied into one first. The interpreter's lock is let go while a big block is judged or hashed. */
+   A call reads a `bytes`, which nobody writes. Any other buffer, which other threads and programs
+   may write meanwhile, is copied into one first. The interpreter's lock is let go while a big block
+   is judged or hashed. */
 #include "native.h"
 
 #include "car.h"
@@ -315,8 +316,8 @@ static PyObject *negative(uint64_t n) {
     return inverse;
 }
 
-/* Takes the value's tokens. They are those of a block: no more follow than there are, payloads are in it, and no list
-   or map is in 128 others. */
+/* Takes the value's tokens. They are those of a block: no more follow than there are, payloads are
+   in it, and no list or map is in 128 others. */
 static PyObject *next_value(Reader *reader) {
     const dagcbor_token token = *reader->next++;
     const char *payload = reader->block + token.place;
@@ -354,7 +355,8 @@ static dagcbor_token *room_for(size_t tokens) {
     return room ? room : no_memory();
 }
 
-/* The value of the item from an offset on. It also finds where the item ends, if others may follow. */
+/* The value of the item from an offset on. It also finds where the item ends, if others may follow.
+ */
 static PyObject *read_value(State *state, PyObject *block, size_t start, size_t *end) {
     dagcbor_token few[FEW_TOKENS], *tape = few;
     const uint8_t *bytes = bytes_of(block) + start;
@@ -486,7 +488,8 @@ static int add_part(Writer *writer, Step step, PyObject *part) {
     return done;
 }
 
-/* True if a list or map of this many parts has them in more lists and maps than a block may have. */
+/* True if a list or map of this many parts has them in more lists and maps than a block may have.
+ */
 static bool is_too_deep(const Writer *writer, Py_ssize_t count) {
     return writer->level == MOST_LEVELS - 1 && count > 0;
 }

@@ -1,5 +1,5 @@
-/* What takes memory, for Python, by the limited API. It is an extension of its own, because its library takes memory
-   and the other does not. */
+/* What takes memory, for Python, by the limited API. It is an extension of its own, because its
+   library takes memory and the other does not. */
 #define Py_LIMITED_API 0x030B0000
 #define PY_SSIZE_T_CLEAN
 #include <Python.h>
@@ -34,10 +34,10 @@ static PyObject *answer_of(PyObject *bytes, Call *call) {
     return takes(bytes, &it.bytes) ? answer_to(&it, call) : NULL;
 }
 
-/* repository(file): 0, and the block that tells of the repository; or 1, and the line that tells why the file is not
-   one. commit(file): the same for only the commit that the first root names. to_json(block): the number of its kind,
-   and the text; or that of the refusal. from_json(text): the number of the kind, and the block; or that of the refusal,
-   and the place. */
+/* repository(file): 0, and the block that tells of the repository; or 1, and the line that tells
+   why the file is not one. commit(file): the same for only the commit that the first root names.
+   to_json(block): the number of its kind, and the text; or that of the refusal. from_json(text):
+   the number of the kind, and the block; or that of the refusal, and the place. */
 #define OF_BYTES(name, call)                                   \
     static PyObject *name(PyObject *module, PyObject *bytes) { \
         (void)module;                                          \
@@ -59,8 +59,8 @@ static PyObject *proof_of_record(PyObject *module, PyObject *args) {
     return takes(file, &it.bytes) && takes(key, &it.key) ? answer_to(&it, proof_of) : NULL;
 }
 
-/* event_frame(bytes, start): for the frame that stands there the number of its kind, or of why there is none; and where
-   its body begins, and where it ends. */
+/* event_frame(bytes, start): for the frame that stands there the number of its kind, or of why
+   there is none; and where its body begins, and where it ends. */
 static PyObject *event_frame(PyObject *module, PyObject *args) {
     (void)module;
     PyObject *held;

@@ -46,8 +46,8 @@ PyObject *new_cid(PyTypeObject *type, const uint8_t *bytes, size_t length);
 /* The packed CIDs: a byte of length before each. */
 PyObject *unpack(State *state, const uint8_t *packed, size_t length);
 
-/* An error of the type. It takes the references to the words and the place. If one is NULL, the error that is raised
- * already stays, and no other is made. */
+/* An error of the type. It takes the references to the words and the place. If one is NULL, the
+ * error that is raised already stays, and no other is made. */
 PyObject *new_error(PyObject *type, PyObject *said, const char *kind, PyObject *place);
 
 /* Raises it, and lets it go. */

@@ -24,9 +24,9 @@ DECLARES = {"dagcbor": "judge, read and spell blocks of DAG-CBOR, in memory that
 DECLARED = re.compile(r"^/\* (.*?) \*/\n((?:[^\n]+\n)*)", re.M | re.S)
 DAGCBOR = """usage: dagcbor check|links
 
-Of blocks on standard input, a line each, in hexadecimal:
-  check    the kind of each, or why it is refused
-  links    the links of each
+For each block on standard input, one a line in hexadecimal, it writes:
+  check    its kind, or why it is refused
+  links    its links
 
 For example: printf '1818\\n1817\\n' | dagcbor check
 

@@ -46,8 +46,8 @@ static inline bool bytes_add(Bytes *bytes, const uint8_t *more, size_t count) {
     return true;
 }
 
-/* What the program computes SHA-256 with, in place of the library. Above 0 if the block has the digest, 0 if it does
- * not, and below 0 if the call fails. */
+/* What the program computes SHA-256 with, in place of the library. Above 0 if the block has the
+ * digest, 0 if it does not, and below 0 if the call fails. */
 typedef int Digest(void *host, const uint8_t *block, size_t length, const uint8_t digest[32]);
 
 /* The file. At hand are `length` of its bytes at `bytes`, the first of which stands at `place` in

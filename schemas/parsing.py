@@ -274,7 +274,7 @@ class Parser:
         return self.expect_kind("name", what, ",")
 
     def expect_text(self, what):
-        return self.expect_kind("text", what, ', as "a",')
+        return self.expect_kind("text", what, ', such as "a",')
 
     def until(self, close, part):
         """Returns the parts before a mark, and takes the mark too."""
@@ -433,7 +433,7 @@ class Parser:
             found[token.word] = self.expect_text(f"the text of {token.word}").word
         for word in wanted:
             if word not in found:
-                raise SchemaError(representation.place, f'{representation.word} wants `{{ {word} "a" }}` after it')
+                raise SchemaError(representation.place, f'{representation.word} needs `{{ {word} "a" }}` after it')
         return found
 
     def field(self):
@@ -496,7 +496,7 @@ class Parser:
         cases = []
         for place, held, data in rows:
             if data.kind != ("name" if representation == "kinded" else "text"):
-                raise unwanted(data, {"kinded": "a kind", "stringprefix": 'a prefix, as "a:",'}.get(representation, 'a key, as "a",'))
+                raise unwanted(data, {"kinded": "a kind", "stringprefix": 'a prefix, such as "a:",'}.get(representation, 'a key, such as "a",'))
             cases.append(Case(case_name(held), held, data.word, place))
         tag, content = (options.get(word, "") for word in ("discriminantKey", "contentKey"))
         return Union(name.word, cases, representation, name.place, discriminant=tag, content=content)
@@ -518,7 +518,7 @@ def case_name(held):
 def unwanted(token, what, form=","):
     """The refusal of a token, which says what is wanted in its place and how that is written."""
     told = {"text": f'the text "{token.word}"', "end": token.word}.get(token.kind, f"`{token.word}`")
-    return SchemaError(token.place, f"{what} is wanted here{form} and not {told}")
+    return SchemaError(token.place, f"{what} is expected here{form} and not {told}")
 
 
 def parse(text):

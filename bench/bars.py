@@ -1,12 +1,12 @@
 #!/usr/bin/env python3
-"""Puts the ratios of all tables of docs/MEASURED.md into the one of docs/SPEED.md, and those of the codec's calls into README.md,
+"""Puts the ratios of all tables of docs/MEASURED.md into the table of docs/SPEED.md, and those of the codec's calls into README.md,
 and draws some of them as bars (docs/speed.svg).
 
-    bench/bars.py          does all anew; so does each script that puts a table into the page
-    bench/bars.py check    fails where the table, the sentence or the picture is another than the tables say
+    bench/bars.py          makes all of these anew; so does each script that puts a table into the page
+    bench/bars.py check    fails if the table, the sentence or the picture differs from what the tables say
 
-Nothing is measured here. A bar to the left took less time than what it is compared with, one to the right more; the scale is
-logarithmic, so that half and twice the time are as far from the line."""
+It measures nothing. A bar to the left took less time than what it is compared with, and one to the right more. The scale is
+logarithmic, so half and twice the time are equally far from the line."""
 
 import math
 import pathlib
@@ -18,7 +18,7 @@ ROOT = pathlib.Path(__file__).resolve().parent.parent
 TABLES, PAGE, README = ROOT / "docs" / "MEASURED.md", ROOT / "docs" / "SPEED.md", ROOT / "README.md"
 PICTURE = ROOT / "docs" / "speed.svg"
 
-# A group of bars: its heading, the first cell of its table's head, the columns of ratios, with what each adds to a row's name,
+# A group of bars: its heading, the first cell of its table's head, the columns of ratios, each with what it adds to a row's name,
 # and the rows that are drawn.
 GROUPS = [
     ("Rust: serde_cbor, which is not strict", "Call", {"ours / serde_cbor": ""}, ".*"),
@@ -70,7 +70,7 @@ def bars_of(page, first, columns, wanted):
 
 
 def ratios_of(table):
-    """For each column of ratios its name, and the ratios by the names of their rows; what all is compared with is left out."""
+    """For each column of ratios, its name, and the ratios by the names of their rows; the row that all are compared with is left out."""
     head, _, *rows = table
     for at, column in enumerate(head):
         if " / " in column or column.startswith("by "):
@@ -81,7 +81,7 @@ def ratios_of(table):
 
 
 def summary(page):
-    """One table of all: for each column of ratios the least, the greatest, and which row has that."""
+    """One table for all: for each column of ratios the least, the greatest, and the row that has the greatest."""
     yield "| Table | Ratio | rows | least | greatest | which row has that |\n|---|---|---|---|---|---|\n"
     for table in tables(page):
         for column, ratios in ratios_of(table):
@@ -91,13 +91,13 @@ def summary(page):
 
 
 def summarised(page, measured):
-    """The page, with the table of all in its place."""
+    """Returns the page, with the table for all in its place."""
     before, _, rest = page.partition(BEGIN)
     return before + BEGIN + "".join(summary(measured)) + END + rest.partition(END)[2]
 
 
 def told(readme, page):
-    """The README's text, with the least and the greatest ratio of the instructions of the codec's calls in its sentence."""
+    """Returns the README's text, with the least and the greatest ratio of the instructions of the codec's calls in its sentence."""
     _, *row = next(row for table in tables(page) for row in ratios_of(table) if row[0] == "ours / serde_cbor's")
     ratios = row[0].values()
     said = rf"\g<1>{min(ratios):.1f} to {max(ratios):.1f}\g<2>"
@@ -152,7 +152,7 @@ def drawn(page):
 
 
 def made():
-    """Each file that is made of the tables, in whole or in part, and its text."""
+    """Returns each file that is made from the tables, in whole or in part, and its text."""
     measured = TABLES.read_text(encoding="utf-8")
     yield PAGE, summarised(PAGE.read_text(encoding="utf-8"), measured)
     yield PICTURE, "\n".join(drawn(measured)) + "\n"
@@ -165,7 +165,7 @@ def write(made):
 
 
 def main(made, script):
-    """Writes each file anew; or with `check` tells of those that are others than the tables say."""
+    """Writes each file anew; with `check` it names the files that differ from what the tables say."""
     if sys.argv[1:] != ["check"]:
         write(made)
         return 0

@@ -1,4 +1,4 @@
-"""Blocks that are measured: so many equal items, a record, and files of records."""
+"""The blocks that are measured: lists of equal items, a record, and files of records."""
 
 import os
 import random
@@ -13,33 +13,33 @@ PERSON = bytes.fromhex(
     "a3646e616d656c477261636520486f707065726a70726f66657373696f6e72636f6d707574657220"
     "736369656e746973746d796561725f6f665f6269727468190772"
 )
-# A file of a hundred million bytes in records of so many.
+# The size of a record, in a file of a hundred million bytes.
 FILE, RECORD = 100_000_000, 1000
 
 
 def listed(items, item):
-    """A list of so many times the item."""
+    """A list of this many times the item."""
     return head(4, items) + item * items
 
 
 def keyed(keys):
-    """A map of these keys, which are in their order, each to 0."""
+    """A map with these keys, which are in their order, each to 0."""
     return head(5, len(keys)) + b"".join(spelled(3, key) + b"\x00" for key in keys)
 
 
 def digits(entries, width=7):
-    """A map of so many keys of seven digits, each to 0."""
+    """A map with this many keys of seven digits, each to 0."""
     return keyed([b"%0*d" % (width, n) for n in range(entries)])
 
 
 def numbers(entries):
-    """A map of the numbers from 0 in decimal digits, each to 0: a `BTreeMap` walks them by their bytes, which is another
+    """A map with the numbers from 0 in decimal digits as keys, each to 0. A `BTreeMap` walks them by their bytes, which is another
     order."""
     return keyed([b"%d" % n for n in range(entries)])
 
 
 def string(size):
-    """A byte string of so many bytes."""
+    """A byte string of this many bytes."""
     return spelled(2, b"\xa5" * size)
 
 
@@ -55,7 +55,7 @@ def record(chance):
 
 
 def put_records(path, count=FILE // RECORD, size=RECORD):
-    """Makes a CAR file of so many records, each a map of a link to the one before and of bytes; and answers its size."""
+    """Makes a CAR file of this many records, each a map of a link to the record before and of bytes; and returns its size."""
     chance, before = random.Random(3), cid(b"\xf6")
     sections = [counted(before + b"\xf6")]
     for _ in range(count):
@@ -70,12 +70,12 @@ def put_records(path, count=FILE // RECORD, size=RECORD):
 
 
 def told(path):
-    """What tables call the file of records."""
+    """The name of the file of records in tables."""
     return f"{os.path.getsize(path) / 1e6:.0f} MB of blocks of {RECORD} bytes, {FILE // RECORD + 1:,} sections"
 
 
 def put_string(path, given):
-    """Makes the block of one byte string, which has the bytes of the file, and answers its path."""
+    """Makes the block of one byte string that has the bytes of the file, and returns its path."""
     with open(given, "rb") as source, open(path, "wb") as file:
         file.write(head(2, os.path.getsize(given)))
         shutil.copyfileobj(source, file)

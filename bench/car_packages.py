@@ -1,9 +1,9 @@
 #!/usr/bin/env python3
-"""Speed of the packages for Python, Go and Node on a CAR file of 104 MB of records, beside `dagcar check`.
+"""Speed of the packages for Python, Go and Node on a CAR file of 104 MB of records, compared with `dagcar check`.
 
     bench/car_packages.py [RUNS] [PROGRAM] [page]
 
-RUNS is 9 where none is given. bench/measuring.py says the rest."""
+RUNS is 9 if none is given. bench/measuring.py says the rest."""
 
 import shutil
 
@@ -21,7 +21,7 @@ NAMES = {
 
 
 def ways(section, given, program):
-    """How the file is gone through: what each way is called, and what gives the seconds of it."""
+    """The ways to read the file: the name of each, and the call that returns its seconds."""
     count, go = FILE // RECORD + 1, in_go(section.folder, "languages/cars", ffi())
     yield ["`dagcar check`"], lambda: [used([program, "check"], given).processor]
     yield ["`dagcar list`, which hashes nothing"], lambda: [used([program, "list"], given).processor]

@@ -1,4 +1,4 @@
-"""CAR files: what `dagcar` takes for 100 MB of records of 1 KB, beside what SHA-256 alone takes for the same bytes."""
+"""CAR files: the time of `dagcar` for 100 MB of records of 1 KB, compared with that of SHA-256 alone for the same bytes."""
 
 import shutil
 import sys
@@ -27,7 +27,7 @@ def times(section, program):
 
 
 def memory(section, program):
-    """The heap at its peak, of files of more sections, and of larger blocks."""
+    """The peak of the heap, for files of more sections, and of larger blocks."""
     library = heap_counter(section.folder)
     if library is None:
         return

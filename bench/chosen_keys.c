@@ -1,4 +1,4 @@
-// Prints so many keys of eight letters whose hashes in the library's `HashMap` agree in their low bits: the hasher's seed is
+// Prints keys of eight letters whose hashes in the library's `HashMap` agree in their low bits: the hasher's seed is
 // fixed, so anyone can find them. Usage: chosen_keys COUNT BITS
 #include <stdint.h>
 #include <stdio.h>
@@ -17,7 +17,7 @@ static uint32_t hash(const char *key) {
     uint64_t word;
     memcpy(&word, key, 8);
     uint64_t state = folded(SEED ^ word, MULTIPLIER ^ 16);
-    // The byte that std writes behind each text.
+    // The byte that std writes after each text.
     state = folded(state ^ 0xffffffULL, MULTIPLIER ^ 2);
     return (uint32_t)(state ^ (state >> 32));
 }

@@ -1,7 +1,7 @@
 #!/usr/bin/env python3
-"""Speed of the texts of CIDs through the package for Python, beside Python's own base32: bench/cid_texts.py [RUNS] [page]
+"""Speed of the texts of CIDs through the package for Python, compared with Python's own base32: bench/cid_texts.py [RUNS] [page]
 
-RUNS is 9 where none is given. Python's `base64` knows nothing of CIDs: it writes large letters and a padding, and judges no CID.
+RUNS is 9 if none is given. Python's `base64` knows nothing about CIDs: it writes large letters and padding, and judges no CID.
 bench/measuring.py says the rest."""
 
 from measuring import in_python, measure

@@ -1,12 +1,12 @@
 #!/usr/bin/env python3
-"""Draws docs/growth.svg and docs/store.svg: the tables of growth that stand in docs/MEASURED.md, time against the size of a
-block, and of a store, both scales logarithmic.
+"""Draws docs/growth.svg and docs/store.svg from the tables of growth in docs/MEASURED.md: time against the size of a
+block, and of a store. Both scales are logarithmic.
 
     bench/curves.py          draws them anew; so do `bench/growth.py page` and `bench/store.py page`
-    bench/curves.py check    fails where a picture is another than its table says
+    bench/curves.py check    fails if a picture differs from what its table says
 
-Nothing is measured here. A call whose time grows as the size does is a line at 45 degrees, which the grid's diagonals are; one
-whose time does not is level."""
+It measures nothing. If the time of a call grows with the size, its line has 45 degrees, as the grid's diagonals have. If it does
+not grow, the line is level."""
 
 import math
 import re
@@ -23,26 +23,26 @@ PICTURES = {
 LEFT, RIGHT, TOP, DECADE = 70, 560, 64, 70
 COLOURS = ("#1f77b4", "#d2691e", "#2e8b57", "#b22222", "#7b4fb5", "#8c6d31", "#c2528b", "#5b6770", "#148a8a")
 UNITS = {"KB": 3, "MB": 6}
-# What ends the name of a row that is not ours.
+# The end of the name of a row that is not ours.
 PEER = ", Python"
 GAP = 17
 TIMES = ((0, "s"), (-3, "ms"), (-6, "µs"), (-9, "ns"))
 
 
 def size_of(name):
-    """The power of ten of `10 KB`."""
+    """Returns the power of ten for `10 KB`."""
     number, unit = name.split()
     return math.log10(int(number.replace(",", ""))) + UNITS[unit]
 
 
 def time_of(power):
-    """A power of ten as seconds: `10 ms`."""
+    """Returns a power of ten as seconds: `10 ms`."""
     least, unit = next((least, unit) for least, unit in TIMES if power >= least)
     return f"{10 ** (power - least)} {unit}"
 
 
 def curves(first):
-    """The sizes as powers of ten, and the seconds of each call, of the table whose head begins so."""
+    """The sizes as powers of ten, and the seconds of each call, from the table whose head begins so."""
     for head, _, *rows in bars.tables(bars.TABLES.read_text(encoding="utf-8")):
         if head[0] == first:
             sizes = [size_of(name) for name in head[1:]]
@@ -83,7 +83,7 @@ def polyline(points, colour, more=""):
 
 
 def drawn(sizes, calls, at):
-    """The curves, and their names, which stand apart from one another. What Python does of the same is dashed."""
+    """The curves, and their names, which stand apart from one another. The curve of what Python does for the same is dashed."""
     last, colours = TOP - 12, {}
     for name, row in sorted(calls, key=lambda call: -call[1][-1]):
         ours = name.removesuffix(PEER)

@@ -1,11 +1,11 @@
 #!/usr/bin/env python3
-"""What `dagcar event` takes: for frames that are made to be dear, at three sizes; and for honest frames, beside SHA-256 of as
-many bytes by `dagcar name`, and a judge in Python that keeps nodes as dicts (conformance/events.py).
+"""Measures `dagcar event`: for frames that are made to be costly, at three sizes; and for honest frames, compared with SHA-256 of as
+many bytes by `dagcar name`, and with a judge in Python that keeps nodes as dicts (conformance/events.py).
 
-    bench/events.py [FRAMES] [page]    of so many honest frames (100)
+    bench/events.py [FRAMES] [page]    takes FRAMES honest frames (100)
 
-The program is the one that `./dagcar` built, or DAGCAR names it. Each run is a process, of which the time of one without input is
-taken off. The least processor time of five runs counts. bench/measuring.py says the rest."""
+The program is the one that `./dagcar` built, or DAGCAR names it. Each run is a process, and the time of a run without input is
+subtracted. The least processor time of five runs counts. bench/measuring.py says the rest."""
 
 import os
 import subprocess
@@ -15,7 +15,7 @@ from measuring import ROOT, least, machine, measure, put, used
 from car_bytes import spelled
 
 PROGRAM = os.environ.get("DAGCAR") or f"{ROOT}/crates/dagcar/out/dagcar"
-# The most bytes of blocks of a dear frame.
+# The most bytes of blocks in a costly frame.
 SIZES = (125_000, 500_000, 1_990_000)
 RUNS = 5
 # The bytes of the string whose SHA-256 is timed.
@@ -28,13 +28,13 @@ def seconds(path, word="event"):
 
 
 def reference(*words):
-    """What the judge in Python says."""
+    """Returns what the judge in Python says."""
     words = [sys.executable, f"{ROOT}/conformance/events.py", *map(str, words)]
     return subprocess.run(words, stdout=subprocess.PIPE, text=True, check=True).stdout
 
 
 def dear(section, base):
-    """The frames that are made to be dear."""
+    """The frames that are made to be costly."""
     for size in SIZES:
         reference("hostile", f"{section.folder}/{size}", size)
     section.head("A frame of", *["KB, ms"] * len(SIZES))

@@ -1,11 +1,11 @@
 #!/usr/bin/env python3
-"""Runs the gate, and says what each crate cost it: processor seconds of its proof, of its tests', of its must-fail edits.
+"""Runs the gate, and says what each crate cost: the processor seconds of its proof, of its tests, and of its must-fail edits.
 
-    bench/gate.py    runs `rt ci`, and prints two tables behind what it
-                             prints: what each crate cost, with the minute at which the last part of it ended, and the dearest edits
+    bench/gate.py    runs `rt ci`, and after what that prints, it prints two tables:
+                     what each crate cost, with the minute at which its last part ended, and the costliest edits
 
-Twice a second it looks at the processes below that run, so it misses up to half a second of each; the last line has the
-whole, as the system counts it. "seed" is the check of a crate that its edits begin with. Linux alone: it reads /proc.
+Twice a second it looks at the processes below that run, so it misses up to half a second of each. The last line has the
+whole, as the system counts it. "seed" is the check of a crate with which its edits begin. It runs on Linux alone: it reads /proc.
 Nothing else should run on the machine."""
 
 import os
@@ -45,7 +45,7 @@ def below(root):
 
 
 def what_of(pid):
-    """The crate that a process checks, what for, and the number of the edit; none where it is no prover."""
+    """The crate that a process checks, what for, and the number of the edit; None if it is not a prover."""
     try:
         with open(f"/proc/{pid}/cmdline", "rb") as file:
             words = file.read().decode(errors="replace").split("\0")
@@ -65,7 +65,7 @@ def what_of(pid):
 
 
 def watch(words):
-    """The status of the run; the seconds of each crate's parts, and when they ended; and those of each edit."""
+    """Returns the status of the run, the seconds of each crate's parts, when they ended, and the seconds of each edit."""
     seconds, names, ends = {}, {}, {}
     began = time.time()
     run = subprocess.Popen(words)

@@ -1,7 +1,7 @@
 #!/usr/bin/env python3
-"""Speed of the package for Go, beside Debian's golang-github-fxamacker-cbor-dev: bench/go_package.py [RUNS] [page]
+"""Speed of the package for Go, compared with Debian's golang-github-fxamacker-cbor-dev: bench/go_package.py [RUNS] [page]
 
-RUNS is 9 where none is given. DAGCBOR_LIBRARY may name another libdagcbor_ffi.a. bench/measuring.py says the rest."""
+RUNS is 9 if none is given. DAGCBOR_LIBRARY may name another libdagcbor_ffi.a. bench/measuring.py says the rest."""
 
 import sys
 

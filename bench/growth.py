@@ -4,10 +4,10 @@
     bench/growth.py [WORD..]
     bench/growth.py page
 
-For each call (or each whose name has one of the words) a line with the processor time an item at each size, and the heap that was
-live at most beyond what was before, as a factor of the block's bytes. The time grows linearly where the numbers of a call stay
-what they are. For a call of `to_vec` the value that is written was before. With `page` the time of some calls over blocks of 1 KB
-to 100 MB is put into docs/MEASURED.md, and drawn (bench/curves.py)."""
+It prints a line for each call, or for each whose name has one of the words: the processor time for an item at each size, and the
+most heap that was live beyond what was there before, as a factor of the block's bytes. If the numbers of a call stay the same, its
+time grows linearly. For a call of `to_vec` the value that is written was there before. With `page` it puts the time of some calls
+over blocks of 1 KB to 100 MB into docs/MEASURED.md, and draws it (bench/curves.py)."""
 
 import random
 import subprocess
@@ -16,13 +16,13 @@ from measuring import built, called, curves, heap_counter, in_c, measure, second
 from blocks import LINK, digits, keyed, listed, numbers, record, string
 
 SIZES = (1_000, 10_000, 100_000, 1_000_000)
-# So many items are gone through at each size, that the time can be told.
+# The items that are gone through at each size, so that the time can be measured.
 ITEMS = 2_000_000
-# So many keys whose hashes agree in so many bits.
+# The keys whose hashes agree, and the bits in which they do.
 KEYS, BITS = 12_800, 14
 NUMBER = b"\x18\x18"
 
-# What each block is, and that of so many items.
+# The name of each block, and how to make one of a number of items.
 BLOCKS = {
     "list of 00": lambda n: listed(n, b"\x00"),
     "list of a1 60 00": lambda n: listed(n, b"\xa1\x60\x00"),
@@ -61,14 +61,14 @@ CALLS = {
     "to_vec::<Bytes>": ("byte string",),
 }
 
-# What is drawn: each call over blocks of about so many bytes, which are read until this many bytes are.
+# What is drawn: each call over blocks of about these sizes, which are read until this many bytes are read.
 BYTES = {"1 KB": 10**3, "10 KB": 10**4, "100 KB": 10**5, "1 MB": 10**6, "10 MB": 10**7, "100 MB": 10**8}
 READ = 2 * 10**7
 RECORD = record(random.Random(1))
 OF_BYTES = {
     "records": lambda size: listed(size // len(RECORD), RECORD),
     "numbers": lambda size: listed(size // len(NUMBER), NUMBER),
-    # Of keys of eight digits, ten bytes an entry.
+    # Each key has eight digits, and its entry ten bytes.
     "a map": lambda size: digits(size // 10, 8),
 }
 DRAWN = {
@@ -85,7 +85,7 @@ def chosen_keys(folder):
 
 
 def rows(folder, words):
-    """The calls whose names have one of the words: the name, the call, how many items, the block, and how often it is called."""
+    """The calls whose names have one of the words: for each its name, the call, the items, the block, and how often it is called."""
     is_wanted = lambda name: not words or any(word in name for word in words)
     for call, kinds in CALLS.items():
         for kind in kinds:
@@ -99,7 +99,7 @@ def rows(folder, words):
 
 
 def lines(section):
-    """The calls' time and heap beyond those of a run that prepares and calls nothing."""
+    """The time and heap of the calls beyond those of a run that prepares and calls nothing."""
     program, library = built("dagcbor_bench"), heap_counter(section.folder)
     if library is None:
         return
@@ -116,7 +116,7 @@ def seconds(program, call, block):
 
 
 def growth(section):
-    """What is drawn, with `page`; else the lines of calls."""
+    """With `page`, what is drawn; else the lines of calls."""
     if "page" not in section.words:
         lines(section)
         return

@@ -1,13 +1,13 @@
 #!/usr/bin/env python3
-"""What a hostile input costs beside an honest one of the same bytes: processor seconds, at some sizes.
+"""Compares the cost of a hostile input with that of an honest one of the same bytes: processor seconds, at some sizes.
 
     bench/hostile.py            prints the table of all cases
-    bench/hostile.py CASE..     of these: roots, trees
+    bench/hostile.py CASE..     prints that of these: roots, trees
     bench/hostile.py --program PATH ..    measures this build of the program, not the one in crates/
 
 A case makes a hostile input of some size, and an honest one of as many bytes. The program is the
 one that `rt run` built (`./dagstore`): each run is a process with a store of its own. The least
-processor time of three runs counts; a run of more than a minute of the processor is ended, and told as `-`."""
+processor time of three runs counts. A run of more than a minute of processor time is ended, and shown as `-`."""
 
 import os
 import random
@@ -26,12 +26,12 @@ LIMIT = 60
 
 
 def block_of(number, size):
-    """A byte string of about so many bytes that begins with the number."""
+    """A byte string of about this many bytes that begins with the number."""
     return spelled(2, number.to_bytes(8, "little") + bytes(max(0, size - 11)))
 
 
 def honest_file(size, block=41):
-    """A file of one root and of blocks of about so many bytes, as many as a link has, of just `size` bytes."""
+    """A file of one root and of blocks of about as many bytes as a link has, of exactly `size` bytes."""
     first = block_of(0, block)
     out = [counted(header(cid(first))), section(first)]
     left, number = size - sum(map(len, out)), 1
@@ -68,7 +68,7 @@ def trees(count):
 
 
 def honest_tree(size):
-    """A repository of as many records as go into so many bytes, without the blocks of records, and one block that fills it up."""
+    """A repository of as many records as fit into this many bytes, without the blocks of records, and one block that fills it up."""
     def made_of(count):
         tree = made.tree_of({key: cid(b"%d" % number) for number, key in enumerate(keys_of(count))})
         return made.file_of(made.commit(tree.name()), tree.all())
@@ -82,7 +82,7 @@ def honest_tree(size):
     return file + next(it for it in fillings if len(file) + len(it) == size)
 
 
-# the program, the words after it (the store's file goes in the place of {}), the input, and sizes
+# the program, the words after it (the store's file takes the place of {}), the input, and sizes
 CASES = {
     "roots": ("dagstore", ["{}", "import"], roots, (1000, 2000, 4000)),
     "trees": ("dagcar", ["records"], trees, (80, 300, 1000)),
@@ -94,8 +94,8 @@ def limit():
 
 
 def least(program, words, given):
-    """The least processor seconds of some runs, each with a new folder for the store's file, or None where one took too long."""
-    # 1 is a refusal.
+    """The least processor seconds of some runs, each with a new folder for the store's file; None if a run took too long."""
+    # 1 is a refusal
     how = {"statuses": (0, 1, -signal.SIGKILL, -signal.SIGXCPU), "stderr": subprocess.DEVNULL, "preexec_fn": limit}
     took = []
     for _ in range(RUNS):

@@ -3,9 +3,9 @@
 
     bench/languages.py [RUNS] [libcbor | node] [page]
 
-RUNS is 9 where none is given. Python's calls are compared with json and with the accelerator of Debian's python3-cbor2; with
-`node` those of Node with its JSON and Debian's node-cbor; with `libcbor` the judge of the C ABI with Debian's libcbor-dev;
-without these words all. docs/OTHER_LANGUAGES.md says how the packages are built, bench/measuring.py the rest."""
+RUNS is 9 if none is given. Python's calls are compared with json and with the accelerator of Debian's python3-cbor2. With `node`,
+those of Node are compared with its JSON and Debian's node-cbor; with `libcbor`, the judge of the C ABI with Debian's libcbor-dev;
+without these words, all. docs/OTHER_LANGUAGES.md says how the packages are built, bench/measuring.py the rest."""
 
 import os
 import random
@@ -52,7 +52,7 @@ def files(section, blocks):
 
 
 def of_c(section, name, blocks, *libraries):
-    """What the program in C prints of each block."""
+    """Returns what the program in C prints for each block."""
     program = in_c(section.folder, f"languages/{name}.c", f"-I{FFI}/include", ffi(), *libraries)
     return dict(zip(blocks, printed(program, section.runs, *files(section, blocks))))
 

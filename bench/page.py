@@ -1,9 +1,9 @@
 #!/usr/bin/python3
-"""Speed of the page in the browser on a CAR file of 104 MB of records, beside `dagcar check`.
+"""Speed of the page in the browser on a CAR file of 104 MB of records, compared with `dagcar check`.
 
     bench/page.py [RUNS] [MODULE.wasm] [PROGRAM] [page]
 
-RUNS is 5 where none is given. Without the module callers/web/build proves and builds it. It wants chromium, chromium-driver and
+RUNS is 5 if none is given. Without the module callers/web/build proves and builds it. It needs chromium, chromium-driver and
 python3-selenium of Debian. bench/measuring.py says the rest."""
 
 import os
@@ -22,8 +22,8 @@ SETTLED = "document.querySelector('.car[data-done]')"
 
 
 def processes():
-    """Of each process the words after its name in /proc: the parent is the second, the ticks of user and system the twelfth and
-    next."""
+    """For each process the words after its name in /proc: the parent is the second, and the ticks of user and system are the
+    twelfth and thirteenth."""
     found = {}
     for it in filter(str.isdigit, os.listdir("/proc")):
         try:
@@ -43,7 +43,7 @@ def used_by(pid):
 
 
 def in_page(driver, url, path, scratch, is_watched=False):
-    """Seconds by the clock, of the processor, and the longest in which the page gave no answer, where it is watched."""
+    """Seconds by the clock, of the processor, and the longest in which the page gave no answer, if it is watched."""
     page = Page(driver, url, scratch)
     if is_watched:
         page.js(QUIET)

@@ -1,9 +1,9 @@
 #!/usr/bin/env python3
-"""Speed of a path in a block, beside reading the whole block: the library's calls, and the package for Python.
+"""Speed of a path in a block, compared with reading the whole block: the library's calls, and the package for Python.
 
     bench/paths.py [RUNS] [page]
 
-The block is a list of 10,000 records, and the path leads to a number in the one in the middle. RUNS is 9 where none is given.
+The block is a list of 10,000 records, and the path leads to a number in the one in the middle. RUNS is 9 if none is given.
 bench/measuring.py says the rest."""
 
 from measuring import built, in_python, measure, put, seconds_of_calls

@@ -1,4 +1,4 @@
-// Preloaded (LD_PRELOAD) under the proved program: tells how many bytes of heap were live at most, in the file PEAK.
+// Preloaded (LD_PRELOAD) under the proved program: writes the most bytes of heap that were live into the file PEAK.
 #define _GNU_SOURCE
 #include <malloc.h>
 #include <stdio.h>

@@ -3,8 +3,8 @@
 
     bench/program.py
 
-For each a line with the processor time an item, and the heap that was live at most as a factor of the block's bytes. The time
-grows linearly where the numbers of a call stay what they are. The program reads hexadecimal text, of which it keeps a line, so
+It prints a line for each: the processor time for an item, and the most heap that was live, as a factor of the block's bytes. If the
+numbers of a call stay the same, its time grows linearly. The program reads hexadecimal text and keeps a line of it, so
 a part of time and heap is that of the text."""
 
 import sys
@@ -13,7 +13,7 @@ from measuring import answered, built, heap_counter, measure
 from blocks import LINK, digits, listed, string
 
 SIZES = (1_000, 10_000, 100_000, 1_000_000)
-# What each block is, and that of so many items.
+# The name of each block, and how to make one of a number of items.
 BLOCKS = {
     "list of 00": lambda items: listed(items, b"\x00"),
     "list of 81 00": lambda items: listed(items, b"\x81\x00"),

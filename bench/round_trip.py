@@ -1,12 +1,12 @@
 #!/usr/bin/env python3
 """Sends random data through `dagcar make` and `dagcar show`, and back.
 
-    bench/round_trip.py [COUNT]    so many trees, 10,000 where no number is given
+    bench/round_trip.py [COUNT]    sends COUNT trees, 10,000 if no number is given
 
-Of each tree the block (DAG-CBOR) and the text that `show` must say (DAG-JSON) are written by conformance/, apart from the crates,
-and another text of the same data here: with spaces, with escapes, its keys in any order. `make` must give the block of both
-texts, and `show` the text of the block. The seeds are fixed. The last line is 'N passed, N failed', and the status is 0 if and
-only if none failed. It wants the program built (`./dagcar one </dev/null`)."""
+conformance/ writes the block (DAG-CBOR) of each tree and the text that `show` must say (DAG-JSON), apart from the crates. This
+script writes another text of the same data: with spaces, with escapes, its keys in any order. `make` must give the block for both
+texts, and `show` the text for the block. The seeds are fixed. The last line is 'N passed, N failed', and the status is 0 if and
+only if none failed. It needs the program built (`./dagcar one </dev/null`)."""
 
 import random
 import subprocess
@@ -23,7 +23,7 @@ SHORT = {'"': '\\"', "\\": "\\\\", "\b": "\\b", "\t": "\\t", "\n": "\\n", "\f": 
 
 
 def cid_text(rng, name):
-    """In any base; that of version 0 in its one."""
+    """A CID in any base; one of version 0 in its only base."""
     texts = ("b" + cidtexts.base32(name), "B" + cidtexts.base32(name).upper(), "f" + name.hex(), "z" + cidtexts.base58(name))
     chosen = rng.choice(texts)
     return cidtexts.written(name) if name[:1] == b"\x12" else chosen
@@ -36,7 +36,7 @@ def spaced(rng, *parts):
 
 
 def escaped(rng, text):
-    """A text with some characters as escapes, in any letters."""
+    """A text with some characters as escapes, in large or small letters."""
     out = ""
     for it in text:
         units = it.encode("utf-16-be")
@@ -105,7 +105,7 @@ def run(word, given):
 
 
 def goes_around(seed):
-    """Whether the data of the seed does, or else what went wrong."""
+    """Returns None if the data of the seed passes, or else what went wrong."""
     rng = random.Random(seed)
     data = random_data(rng, rng.choice((0, 1, 2, 4)))
     block, text, other = spell(data), (to_json(data) + "\n").encode(), loose(rng, data).encode()

@@ -1,5 +1,5 @@
 #!/usr/bin/env python3
-"""Instructions of the package for Rust, beside serde_cbor, by callgrind: bench/rust_package.py [page]
+"""Instructions of the package for Rust, compared with serde_cbor's, by callgrind: bench/rust_package.py [page]
 
 It builds bench/languages/package.rs over callers/rust and Debian's librust-serde-cbor-dev and librust-serde-derive-dev.
 bench/measuring.py says the rest."""

@@ -1,10 +1,10 @@
 #!/usr/bin/env python3
-"""What one core does, for docs/FAULTS.md: CAR files of 100 MB of records of each size by the package for Python, and what
-`verify_folder.py` does with their names.
+"""What one core does, for docs/FAULTS.md: the package for Python reads CAR files of 100 MB of records of each size, and
+`verify_folder.py` divides their names.
 
     bench/scale.py [RUNS] [page]
 
-RUNS is 5 where none is given. With `page` the table is put into docs/FAULTS.md. bench/measuring.py says the rest."""
+RUNS is 5 if none is given. With `page` the table is put into docs/FAULTS.md. bench/measuring.py says the rest."""
 
 from measuring import in_python, measure
 from blocks import FILE, put_records

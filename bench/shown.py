@@ -1,4 +1,4 @@
-"""A block as DAG-JSON: what `dagcar show` takes for 10 MB in one block, beside Python's `json.dumps` of the same data."""
+"""A block as DAG-JSON: the time of `dagcar show` for 10 MB in one block, compared with Python's `json.dumps` of the same data."""
 
 import json
 import random
@@ -12,7 +12,7 @@ SIZE = 10_000_000
 
 
 def record(chance, number):
-    """A record of a link, a text, a number and a list of numbers: its spelling, and what Python takes for it."""
+    """A record of a link, a text, a number and a list of numbers: its spelling, and its value in Python."""
     name = cid(b"%d" % number)
     text = "".join(chance.choice("abcdefghijklmnopqrstuvwxyz \n\"é") for _ in range(9))
     while len(text.encode()) > 23:

@@ -1,9 +1,9 @@
 #!/usr/bin/env python3
-"""Repositories of signed records: what `dagcar records` takes, beside SHA-256 of the same bytes alone, and beside a Python.
+"""Repositories of signed records: the time of `dagcar records`, compared with SHA-256 of the same bytes, and with a Python.
 
     bench/signed_records.py [RUNS] [PROGRAM] [page]
 
-The repository has 100,000 records of 300 bytes. RUNS is 5 where none is given. bench/measuring.py says the rest."""
+The repository has 100,000 records of 300 bytes. RUNS is 5 if none is given. bench/measuring.py says the rest."""
 
 import os
 import random
@@ -16,7 +16,7 @@ RECORDS, SIZE = 100_000, 300
 
 
 def put(path, count):
-    """Makes the file of a repository of so many records, each a block of bytes."""
+    """Makes the file of a repository of this many records, each a block of bytes."""
     rng = random.Random(7)
     blocks = {f"app.bsky.feed.post/3k{number:09x}".encode(): made.spelled(2, rng.randbytes(SIZE)) for number in range(count)}
     nodes = []
@@ -28,7 +28,7 @@ def put(path, count):
 
 
 def spell(node, out):
-    """Appends the blocks of the node and of those below it, each spelled once, and answers its name."""
+    """Appends the blocks of the node and of those below it, each once, and returns its name."""
     for it in node.below():
         it.name = lambda name=spell(it, out): name
     out.append(node.block())

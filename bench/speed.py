@@ -1,12 +1,12 @@
 #!/usr/bin/env python3
-"""Speed, beside a Rust program over serde_cbor: the library's calls on small blocks, the program on 20 MB of lines, and the heap;
-CAR files, beside SHA-256 alone; and a block as DAG-JSON, beside Python.
+"""Speed, compared with a Rust program over serde_cbor: the library's calls on small blocks, the program on 20 MB of lines, and the
+heap. Also CAR files, compared with SHA-256 alone, and a block as DAG-JSON, compared with Python.
 
     bench/speed.py [RUNS] [cars] [shown] [derives] [page]
 
-RUNS is 7 where none is given. With `cars` CAR files are measured, with `shown` DAG-JSON, with `derives` a type that derives;
-without all of them calls, lines and the heap too. Calls have instructions beside their times where there is valgrind. The peer
-wants cargo and Debian's sources of serde_cbor and serde_derive, and the one in Go Debian's sources of fxamacker/cbor.
+RUNS is 7 if none is given. `cars` measures CAR files, `shown` DAG-JSON, and `derives` a type that derives. Without any of them
+calls, lines and the heap are measured too. If there is valgrind, calls have instructions beside their times. The peer in Rust needs
+cargo and Debian's sources of serde_cbor and serde_derive, and the one in Go Debian's sources of fxamacker/cbor.
 bench/measuring.py says the rest."""
 
 import random
@@ -25,7 +25,7 @@ SOURCES = ("serde_cbor-0.11.2", "serde_derive-1.0.152")
 LINES = 20_000_000
 RECORD = record(random.Random(1))
 WRONG, INTEGER = RECORD[:-1] + b"\xff", b"\x1a\x12\x34\x56\x78"
-# Each call, the peer's, the block, and how many calls are made.
+# Each call, the peer's call, the block, and how many calls are made.
 CALLS = (
     ("judging a record of 84 bytes", "check_slice", "from_slice::<IgnoredAny>", RECORD, 400_000),
     ("judging an integer of five bytes", "check_slice", "from_slice::<IgnoredAny>", INTEGER, 4_000_000),
@@ -73,12 +73,12 @@ KINDS = {
 
 
 def peer():
-    """The folder of the programs over serde_cbor, or none."""
+    """The folder of the programs over serde_cbor, or None."""
     return in_cargo(f"{ROOT}/bench/out/peer", DEPENDENCIES, ("peer/calls", "peer/lines"), *SOURCES)
 
 
 def of_two(numbers, form=digits):
-    """The numbers as cells, and the ratio where there are two."""
+    """The numbers as cells, and the ratio if there are two."""
     return [*map(form, numbers), *([ratio(*numbers)] if len(numbers) == 2 else [])]
 
 
@@ -87,7 +87,7 @@ def counted(program, call, block):
 
 
 def calls(section, rows, peer_name, program, is_counted):
-    """The library's calls, each on one small block, beside those of the peer's program where there is one."""
+    """The library's calls, each on one small block, compared with those of the peer's program if there is one."""
     ours = built("dagcbor_bench")
     columns = ["ours, ns", f"{peer_name}, ns", f"ours / {peer_name}"][: 3 if program else 1]
     columns += ["instructions", f"{peer_name}'s", f"ours / {peer_name}'s"][: (3 if program else 1) * is_counted]
@@ -100,7 +100,7 @@ def calls(section, rows, peer_name, program, is_counted):
 
 
 def program_used(words, given, is_piped, answers):
-    """What a program takes over the file, which it reads itself or through a pipe."""
+    """Measures a program over the file, which it reads itself or through a pipe."""
     if not is_piped:
         return used(words, given, answers)
     with open(given, "rb") as source, subprocess.Popen(["cat"], stdin=source, stdout=subprocess.PIPE) as cat:
@@ -108,7 +108,7 @@ def program_used(words, given, is_piped, answers):
 
 
 def lines(section, programs, kind):
-    """The programs over 20 MB of lines of one kind, from a file and from a pipe, which must answer the same."""
+    """The programs over 20 MB of lines of one kind, from a file and from a pipe. They must answer the same."""
     chance, data = random.Random(2), bytearray()
     while len(data) < LINES:
         data += KINDS[kind](chance).hex().encode() + b"\n"
@@ -123,7 +123,7 @@ def lines(section, programs, kind):
 
 
 def heap(section, folder):
-    """The heap that a tree takes at most while it is read, as a factor of its block."""
+    """The most heap that a tree takes while it is read, as a factor of its block."""
     library = heap_counter(section.folder)
     if library is None:
         return
@@ -147,9 +147,9 @@ def of_blocks(section):
 
 
 def derives(section):
-    """The record as a type that derives, beside the type by hand and serde_cbor's derive."""
+    """The record as a type that derives, compared with the type by hand and serde_cbor's derive."""
     if not shutil.which("valgrind"):
-        print("\nderives are skipped, since there is no valgrind")
+        print("\nderives are skipped, because there is no valgrind")
         return
     folder, ours = peer(), built("dagcbor_bench")
     columns = ["a derive", "by hand", "a derive / by hand", "serde_cbor's derive", "a derive / serde_cbor's"]

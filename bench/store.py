@@ -1,13 +1,13 @@
 #!/usr/bin/env python3
-"""What the calls of a store on disk take as it grows, beside Python's sqlite3 with hashlib, over the same blocks.
+"""Measures the calls of a store on disk as it grows, compared with Python's sqlite3 with hashlib, over the same blocks.
 
-    bench/store.py [MB..]          prints a table of seconds, and one of bytes, for stores of so many MB (1, 10, 100 and 1,000)
+    bench/store.py [MB..]          prints a table of seconds, and one of bytes, for stores of these MB (1, 10, 100 and 1,000)
     bench/store.py [MB..] page     puts both into docs/MEASURED.md, and draws the first (bench/curves.py)
-    bench/store.py large MB        prints what calls on one block take over a store of so many MB, which imports of 1,000 MB make
-    bench/store.py large MB made   the same over one whose rows Python's sqlite3 puts into an empty store
+    bench/store.py large MB        prints the time of calls on one block over a store of this many MB, made by imports of 1,000 MB
+    bench/store.py large MB made   the same over a store whose rows Python's sqlite3 puts into an empty one
 
-A block has 1,000 bytes, and links to the two below it in a tree. Each call of `dagstore` is a process of its own; Python's calls
-run in a process that runs already, and open the file anew. The programs are those that `./dagstore` and `./dagcar` built, or
+A block has 1,000 bytes, and links to the two below it in a tree. Each call of `dagstore` is a process of its own. Python's calls
+run in a process that is already running, and open the file anew. The programs are those that `./dagstore` and `./dagcar` built, or
 DAGSTORE names the first. Nothing here is a test. BENCH_FOLDER names the folder in which the files are made. MINUTES ends the
 imports of `large` early."""
 
@@ -28,7 +28,7 @@ from car_bytes import cid, counted, head, header, link, spelled
 PROGRAM = os.environ.get("DAGSTORE") or f"{ROOT}/crates/dagstore/out/dagstore"
 TABLE = "CREATE TABLE block (cid BLOB NOT NULL PRIMARY KEY, bytes BLOB NOT NULL) STRICT"
 SIZES = (1, 10, 100, 1000)
-# The least of so many runs of a call on one block.
+# A call on one block is run this often, and the least counts.
 RUNS = 9
 
 
@@ -36,7 +36,7 @@ RUNS = 9
 
 
 def blocks(count):
-    """So many blocks of 1,000 bytes, the last first: lists of links to blocks 2n + 1 and 2n + 2, where these are, and of
+    """This many blocks of 1,000 bytes, the last first: lists of links to blocks 2n + 1 and 2n + 2, if these are there, and of
     bytes."""
     names = [b""] * count
     for n in range(count - 1, -1, -1):
@@ -49,7 +49,7 @@ def blocks(count):
 
 def apart(call, *given):
     """Calls it in a process of its own, so that this one stays small: the greatest memory of a child is never less than what this
-    one has as it starts it."""
+    process has when it starts the child."""
     process = multiprocessing.Process(target=call, args=given)
     process.start()
     process.join()
@@ -57,7 +57,7 @@ def apart(call, *given):
 
 
 def write_blocks(path, count):
-    """A file of these blocks, whose root is the first, and beside it the name of the second."""
+    """Makes a file of these blocks, whose root is the first, and beside it the name of the second."""
     with open(path, "wb") as file:
         file.write(bytes(len(counted(header(cid(b""))))))
         for n, name, block in blocks(count):
@@ -69,7 +69,7 @@ def write_blocks(path, count):
 
 
 def length(file):
-    """The length that stands there in the file, or none at its end."""
+    """Returns the length that stands there in the file, or None at its end."""
     n = shift = 0
     while byte := file.read(1):
         n |= (byte[0] & 127) << shift
@@ -97,7 +97,7 @@ def tested(name, block):
 
 
 def peer_import(path, cars):
-    """Each block's digest is tested, and all are one transaction."""
+    """Tests each block's digest. All blocks are one transaction."""
     with opened(path) as base, open(cars, "rb") as file:
         base.execute(TABLE)
         base.execute("BEGIN")
@@ -109,7 +109,7 @@ def peer_import(path, cars):
 
 
 def peer_export(path):
-    """Each block's digest is tested, in the order of names."""
+    """Tests each block's digest, in the order of names."""
     with opened(path) as base, open(os.devnull, "wb") as file:
         for name, block in base.execute("SELECT cid, bytes FROM block ORDER BY cid"):
             file.write(counted(name + tested(name, block)))
@@ -127,7 +127,7 @@ def peer_put(path):
 
 
 def peer_gc(path, root):
-    """Keeps what links lead to from the root; each block that is read is tested."""
+    """Keeps the blocks that links lead to from the root; tests each block that it reads."""
     with opened(path) as base:
         kept, wanted = set(), [root]
         while wanted:
@@ -148,7 +148,7 @@ def peer_gc(path, root):
 
 @contextlib.contextmanager
 def watched(base):
-    """Looks meanwhile at the log beside the file; what is handed out has the most MB of it."""
+    """Watches the log beside the file meanwhile; what is handed out has the most MB of it."""
     most, done = [0], threading.Event()
 
     def look():
@@ -184,7 +184,7 @@ def theirs(call, *given):
 
 
 def traced(base, *words, given=os.devnull):
-    """How many KB of its database and log a call reads, and how often it syncs, by what it asks of the system."""
+    """Returns how many KB of its database and log a call reads, and how often it syncs, by what it asks of the system."""
     with tempfile.NamedTemporaryFile("r") as out:
         tracing = ["strace", "-f", "-y", "-e", "trace=read,pread64,preadv,fsync,fdatasync", "-o", out.name]
         used([*tracing, PROGRAM, base, *words], given)
@@ -194,12 +194,12 @@ def traced(base, *words, given=os.devnull):
 
 
 def one_block(at):
-    """A file with a block that no store has."""
+    """Makes a file with a block that no store has."""
     return put(f"{at}/block", spelled(2, os.urandom(997)))
 
 
 def timed(base, calls):
-    """What each call takes, of so many runs, and how many MB the log beside its file has at most."""
+    """Returns what each call takes in this many runs, and the most MB of the log beside its file."""
     rows = {}
     for name, (runs, call) in calls.items():
         with watched(base["Python" in name]) as log:
@@ -208,7 +208,7 @@ def timed(base, calls):
 
 
 def measured(at, size):
-    """What each call takes over a store of so many MB, and what of it is counted."""
+    """Returns what each call takes over a store of this many MB, and the counts of it."""
     cars, a, b = f"{at}/blocks.car", f"{at}/a.db", f"{at}/b.db"
     apart(write_blocks, cars, size * 1000)
     left = read(f"{cars}.name")
@@ -236,7 +236,7 @@ def measured(at, size):
 
 
 def counts_of(took, reads):
-    """What is counted, and seconds by the clock."""
+    """The counts, and seconds by the clock."""
     both = lambda name, form, of: "; ".join(format(of(*took[it]), form) for it in (name, f"{name}, Python"))
     rows = {f"`{call}`: KB read; syncs": f"{read_there:.0f}; {syncs}" for call, (read_there, syncs) in reads.items()}
     for name in ("`import`", "`gc` of half"):
@@ -249,7 +249,7 @@ def counts_of(took, reads):
 
 
 def hashed(at, size):
-    """SHA-256 alone, of the toolchain: `dagcar name` over one byte string of so many MB."""
+    """SHA-256 alone, of the toolchain: `dagcar name` over one byte string of this many MB."""
     with open(f"{at}/string", "wb") as file:
         file.write(head(2, size * 10**6))
         for _ in range(size):
@@ -262,14 +262,14 @@ def hashed(at, size):
 # ---- a large store
 
 
-# How many blocks an import has: more would want a log of many times their bytes, since most pages of the index go to it each time
-# that its memory is full.
+# How many blocks an import has. With more it would need a log of many times their bytes, because most pages of the index go to the
+# log each time that its memory is full.
 PART = 1_000_000
 
 
 def write_parts(pipe, count):
-    """The blocks, so many each time that the pipe is opened, and then the name of the last of them, which whoever opens it takes
-    away."""
+    """The blocks, a number of them each time that the pipe is opened, and then the name of the last of them, which whoever opens
+    the pipe takes away."""
     made = blocks(count)
     for _ in range(0, count, PART):
         with open(pipe, "wb") as file:
@@ -282,7 +282,7 @@ def write_parts(pipe, count):
 
 
 def import_parts(at, count):
-    """Imports them until MINUTES are over. Prints what each took, and answers the name of the last block."""
+    """Imports them until MINUTES are over. Prints what each import took, and returns the name of the last block."""
     base, pipe, begun = f"{at}/a.db", f"{at}/parts", time.monotonic()
     os.mkfifo(pipe)
     writer = multiprocessing.Process(target=write_parts, args=(pipe, count))
@@ -306,8 +306,8 @@ def import_parts(at, count):
 
 
 def make_rows(at, count):
-    """An empty store, into which Python's sqlite3 puts the blocks. Answers the name of the last. The file is one that `dagstore`
-    could have left: the same schema, and no log."""
+    """An empty store, into which Python's sqlite3 puts the blocks. Returns the name of the last. The file is one that `dagstore`
+    could have left: it has the same schema, and no log."""
     ours(f"{at}/a.db", "import", put(f"{at}/empty.car", counted(header())))
     apart(put_rows, at, count)
     print(f"{count // 1000:,} MB put by Python's sqlite3: file {os.path.getsize(f'{at}/a.db') // 1_000_000:,} MB", flush=True)

@@ -1,10 +1,10 @@
 #!/usr/bin/env python3
-"""Speed and memory of `dagcar cat` and `ls` over files of IPFS, beside `dagcar verify`, which hashes the same blocks.
+"""Speed and memory of `dagcar cat` and `ls` over files of IPFS, compared with `dagcar verify`, which hashes the same blocks.
 
     bench/unixfs.py [RUNS] [PROGRAM] [page]
 
-A row for a file of 100 MB, and for files and directories that are made to cost much, at two sizes each: the processor time, and
-the memory of the process at its peak. RUNS is 5 where none is given. bench/measuring.py says the rest."""
+It prints a row for a file of 100 MB, and for files and directories that are made to be costly, at two sizes each: the processor
+time, and the peak of the process's memory. RUNS is 5 if none is given. bench/measuring.py says the rest."""
 
 import os
 import subprocess
@@ -27,7 +27,7 @@ def put(blocks, block, name=unixfs.leaf_name):
 
 
 def node(blocks, links, *message):
-    """A node whose links, of names, texts and sizes, stand as they are given."""
+    """A node whose links, with names, texts and sizes, stand as they are given."""
     tags = dagpb.HASH, dagpb.NAME, dagpb.TSIZE
     messages = (b"".join(map(dagpb.field, tags, link)) for link in links)
     block = b"".join(dagpb.field(dagpb.LINKS, it) for it in messages) + dagpb.field(dagpb.DATA, unixfs.spelled(*message))
@@ -35,7 +35,7 @@ def node(blocks, links, *message):
 
 
 def file(blocks, parts):
-    """A file of these parts, each of a name and a size, and its size."""
+    """A file of these parts, each with a name and a size, and its size."""
     sizes = [size for _, size in parts]
     return node(blocks, [(name, b"", size) for name, size in parts], unixfs.FILE, None, sum(sizes), sizes), sum(sizes)
 
@@ -49,12 +49,12 @@ def large(blocks, size):
 
 
 def wide(blocks, count):
-    """A file of so many links to one leaf of a byte."""
+    """A file of this many links to one leaf of a byte."""
     return file(blocks, [(put(blocks, b"x"), 1)] * count)[0]
 
 
 def chain(blocks, count):
-    """A file of so many nodes, one below the other, above a leaf of a byte."""
+    """A file of this many nodes, one below the other, above a leaf of a byte."""
     name = put(blocks, b"x")
     for _ in range(count):
         name, _ = file(blocks, [(name, 1)])
@@ -62,12 +62,12 @@ def chain(blocks, count):
 
 
 def fan(blocks, count):
-    """A file of so many links to a chain of 250 nodes, which ends in a byte."""
+    """A file of this many links to a chain of 250 nodes, which ends in a byte."""
     return file(blocks, [(chain(blocks, 250), 1)] * count)[0]
 
 
 def listed(blocks, count, content=b"x"):
-    """A directory of so many entries, which all are one leaf."""
+    """A directory of this many entries, which all are one leaf."""
     leaf = put(blocks, content)
     return node(blocks, [(leaf, b"%07d" % at, len(content)) for at in range(count)], unixfs.DIRECTORY)
 
@@ -101,7 +101,7 @@ def files(section):
     section.head("Input", "size", "MB", "word", "s of the processor", "s of `verify`", "memory, MB")
     for case, (name, word, _, sizes) in enumerate(CASES):
         for size in sizes:
-            # A process of its own makes the file, since a child begins with the memory of its parent.
+            # A process of its own makes the file, because a child begins with the memory of its parent.
             made = [sys.executable, os.path.abspath(__file__), "--make", str(case), str(size), path]
             root = subprocess.run(made, stdout=subprocess.PIPE, text=True, check=True).stdout.strip()
             runner = lambda *words: lambda: used([program, *words], path, statuses=(0, 1), stderr=subprocess.DEVNULL)

@@ -1,5 +1,5 @@
 """Asks a peer: a command that reads lines of hexadecimal and writes a line for each: `ok HEX`, what it writes again of what it read,
-or `ok` alone, or `refused ..`. What ends, hangs or says nothing is found line by line, and asked again alone."""
+or `ok` alone, or `refused ..`. If it ends, hangs or says nothing, the line that does it is found, and asked again alone."""
 
 import os
 import resource
@@ -9,7 +9,7 @@ import subprocess
 import threading
 from dataclasses import dataclass
 
-PATIENCE = 20  # lines that may hang before no more are asked
+PATIENCE = 20  # the lines that may hang before the peer is asked no more
 
 
 @dataclass
@@ -35,7 +35,7 @@ def understood(line):
 
 
 def feed(pipe, lines):
-    """Writes all lines, as far as they are taken."""
+    """Writes all lines, as far as the peer takes them."""
     try:
         with pipe:
             pipe.writelines(f"{line}\n".encode() for line in lines)
@@ -44,7 +44,7 @@ def feed(pipe, lines):
 
 
 def heard(pipe, seconds):
-    """All that comes, and whether nothing came for so long."""
+    """Returns all that comes, and true if nothing came for this long."""
     parts = []
     while select.select([pipe], [], [], seconds)[0]:
         part = os.read(pipe, 1 << 16)
@@ -56,7 +56,7 @@ def heard(pipe, seconds):
 
 @dataclass
 class Peer:
-    """The command, and what it may take: seconds without an answer, and MB that it writes to."""
+    """The command, and its limits: the seconds without an answer, and the MB that it may write to."""
 
     command: list
     seconds: float = 5
@@ -86,7 +86,7 @@ class Peer:
         return answers, "hang" if is_late else why
 
     def is_there(self, line="f6"):
-        """Whether it answers a sound line, in words that are known."""
+        """Returns true if it answers a sound line, in words that are known."""
         try:
             found, _ = self.ask([line])
         except OSError:
@@ -94,7 +94,7 @@ class Peer:
         return len(found) == 1 and understood(found[0]).how != "crash"
 
     def answers(self, lines):
-        """An answer for each line; after many hangs no more are asked."""
+        """An answer for each line; after many hangs it asks no more."""
         done, size, patience = [], len(lines), PATIENCE
         while len(done) < len(lines):
             if patience == 0:

@@ -8,7 +8,7 @@ from judge import KINDS, MOST_DIGEST, Link, Refused, judge, links_of, spell, var
 from judge import VARIANTS as OF_BLOCKS
 
 PRAGMA = bytes.fromhex("0aa16776657273696f6e02")  # of version 2: a header of version 1 that says version 2
-FIRST = 51  # bytes before the file of version 1, at least: the pragma, 16 of characteristics, three numbers
+FIRST = 51  # the least number of bytes before the file of version 1: the pragma, 16 of characteristics, three numbers
 CAUSES = {
     "truncated": ("the bytes end before what is announced", "CARv1, Data: as many bytes follow as a length announces", "CARv2, Header: the file of version 1 has as many bytes as are announced"),
     "length": ("a length is no varint in shortest form below 2^64", "unsigned-varint, Specification: the shortest form, of at most 63 bits"),
@@ -29,7 +29,7 @@ OPEN = {
 
 
 class Fault(Exception):
-    """The cause, a key of CAUSES, and the place: where what is faulty begins; of a header that is no block that cause too."""
+    """The cause, a key of CAUSES, and the place: where what is faulty begins; for a header that is not a block, that block's cause too."""
 
 
 def counted(body):
@@ -45,12 +45,12 @@ def written_varint(number):
 
 
 def name(block, codec=0x71, code=0x12):
-    """The name of version 1, by SHA-256 or the identity; of another code a digest of that form."""
+    """The name of version 1, by SHA-256 or the identity hash; for another code, a digest of that form."""
     digest = block if code == 0 else hashlib.sha256(block).digest()
     return b"\x01" + written_varint(codec) + written_varint(code) + bytes([len(digest)]) + digest
 
 
-RAW = name(b"", 0x55, 0)  # of no bytes, by the identity: a root that is never missing
+RAW = name(b"", 0x55, 0)  # the name of no bytes, by the identity hash: a root that is never missing
 
 
 def header(*roots):
@@ -68,7 +68,7 @@ def second(inner, begin=FIRST, size=None, index=0, behind=b"", characteristics=b
 
 
 def counted_at(file, at, end):
-    """Where the bytes of the length that stands there begin and end."""
+    """Returns where the bytes of the length that stands there begin and end."""
     for count in range(1, 11):
         if at + count > end:
             raise Fault("truncated", at)
@@ -83,7 +83,7 @@ def counted_at(file, at, end):
 
 
 def cid_front(body, most_digest=MOST_DIGEST):
-    """The CID that begins the bytes: its length, codec, hash code and digest; or none."""
+    """The CID at the front of the bytes: its length, codec, hash code and digest; or None."""
     if body[:2] == b"\x12\x20":
         return (34, 0x70, 0x12, body[2:34]) if len(body) >= 34 else None
     rest, numbers = body, []
@@ -99,7 +99,7 @@ def cid_front(body, most_digest=MOST_DIGEST):
 
 
 def verdict_on(codec, code, digest, block):
-    """What is said of a block under such a CID."""
+    """The verdict on a block under such a CID."""
     if code not in (0, 0x12) or (code and len(digest) != 32):
         return "not verified"
     if digest != (hashlib.sha256(block).digest() if code else block):
@@ -119,7 +119,7 @@ def in_variants(verdict):
 
 
 def span(file):
-    """Where the file of version 1 begins and ends: of version 1 itself with no end."""
+    """Returns where the file of version 1 begins and ends; for version 1 itself it has no end."""
     if PRAGMA.startswith(file[:11]) and len(file) < 11 or file[:11] == PRAGMA and len(file) < FIRST:
         raise Fault("truncated", 0)
     if file[:11] != PRAGMA:
@@ -131,7 +131,7 @@ def span(file):
 
 
 def header_at(file, at, end):
-    """The roots, and where the first section begins."""
+    """Returns the roots, and where the first section begins."""
     begin, behind = counted_at(file, at, end)
     try:
         data = judge(file[begin:behind])
@@ -145,7 +145,7 @@ def header_at(file, at, end):
 
 
 def sections_at(file, at, end, most_digest):
-    """Each section: where it begins, its CID, where its block begins and where it ends, and what is said of the block."""
+    """For each section: where it begins, its CID, where its block begins and where it ends, and the verdict on the block."""
     while at < end:
         begin, behind = counted_at(file, at, end)
         found = cid_front(file[begin:behind], most_digest)
@@ -157,7 +157,7 @@ def sections_at(file, at, end, most_digest):
 
 
 def read(file, most_digest=MOST_DIGEST):
-    """What is found, up to the first fault: the span, the roots, where the sections begin, the sections; the fault, or none."""
+    """What is found, up to the first fault: the span, the roots, where the sections begin, the sections; the fault, or None."""
     found = {"sections": []}
     try:
         begin, stop = span(file)
@@ -176,7 +176,7 @@ def read(file, most_digest=MOST_DIGEST):
 
 
 def follow(links):
-    """The links, and in place of those by the identity the ones in their blocks."""
+    """The links, with those by the identity hash replaced by the links in their blocks."""
     for it in links:
         _, codec, code, digest = cid_front(it)
         if code:
@@ -189,14 +189,14 @@ def follow(links):
 
 
 def missing(file, found):
-    """What leads to no verified block of the file, in the order of bytes."""
+    """The names that lead to no verified block of the file, in the order of bytes."""
     held = {it["cid"] for it in found["sections"] if it["verdict"] not in ("other bytes", "not verified")}
     blocks = [file[it["block"] : it["end"]] for it in found["sections"] if it["verdict"].startswith("ok ")]
     return sorted(set(follow([*found["roots"], *(link for it in blocks for link in links_of(judge(it)))])) - held)
 
 
 def expected(file):
-    """What is right of the file, in the words of a vector."""
+    """The right answer for the file, in the words of a vector."""
     found, fault = read(file)
     said = {"verdict": "refused" if fault else "ok"}
     if fault:

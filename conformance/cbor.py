@@ -1,6 +1,6 @@
 """What bytes are by RFC 8949 alone, of which DAG-CBOR is a part: well-formed (3, and appendix C), valid (5.3), and their data.
 
-It tells a peer that is not strict, as it never promised, from one that is wrong even as CBOR."""
+It tells a peer that is not strict, because it never promised to be, from one that is wrong even as CBOR."""
 
 import math
 import struct
@@ -14,7 +14,7 @@ BREAK = object()
 
 
 def argument_of(block, at):
-    """Major type, information, argument (none where it is indefinite), and the place behind."""
+    """Major type, information, argument (None if it is indefinite), and the place after them."""
     if at >= len(block):
         raise NotWellFormed
     major, information = block[at] >> 5, block[at] & 31
@@ -29,7 +29,7 @@ def argument_of(block, at):
 
 
 def string_of(block, at, major, length):
-    """The payload of a string, from its chunks where the length is indefinite."""
+    """The payload of a string, from its chunks if the length is indefinite."""
     if length is not None:
         if at + length > len(block):
             raise NotWellFormed
@@ -45,7 +45,7 @@ def string_of(block, at, major, length):
 
 
 def simple_of(information, argument):
-    """Of major type 7, one whose information is not 31."""
+    """An item of major type 7 whose information is not 31."""
     if information < 24 or information == 24:
         if information == 24 and argument < 32:
             raise NotWellFormed
@@ -60,14 +60,14 @@ def simple_of(information, argument):
 
 
 def number_of(number):
-    """A float that is an integer is counted as that, since some languages have one kind of number."""
+    """A float that is an integer counts as that integer, because some languages have one kind of number."""
     if math.isfinite(number) and number == int(number) and (number or math.copysign(1, number) > 0):
         return ("integer", int(number))
     return ("float", repr(number))
 
 
 def parts_of(block, at, count, faults):
-    """So many items, or up to the break."""
+    """This many items, or those up to the break."""
     parts = []
     while count is None or len(parts) < count:
         part, at = item_of(block, at, faults, count is None)
@@ -95,7 +95,7 @@ def entries_of(parts, faults):
 
 
 def tagged(number, inner):
-    """A bignum is the integer that it tells (3.4.3)."""
+    """A bignum is the integer that it says (3.4.3)."""
     if number in (2, 3) and inner[0] == "bytes":
         told = int.from_bytes(inner[1], "big")
         return ("integer", told if number == 2 else -1 - told)
@@ -103,7 +103,7 @@ def tagged(number, inner):
 
 
 def item_of(block, at, faults, may_break=False):
-    """The data of the item that stands there, and the place behind it. What makes it not valid is added to faults."""
+    """The data of the item that stands there, and the place after it. What makes the item invalid is added to faults."""
     major, information, argument, at = argument_of(block, at)
     if major < 2:
         return ("integer", argument if major == 0 else -1 - argument), at
@@ -127,7 +127,7 @@ def item_of(block, at, faults, may_break=False):
 
 
 def data_of(block):
-    """The data, and why it is not valid; or NotWellFormed."""
+    """Returns the data, and why it is not valid; or raises NotWellFormed."""
     faults = []
     found, at = item_of(block, 0, faults)
     if at < len(block):
@@ -136,7 +136,7 @@ def data_of(block):
 
 
 def level(block):
-    """`not well-formed`, `not valid` where a text is not UTF-8, `repeated keys`, or `CBOR`."""
+    """`not well-formed`, `not valid` if a text is not UTF-8, `repeated keys`, or `CBOR`."""
     try:
         faults = data_of(block)[1]
     except NotWellFormed:
@@ -145,7 +145,7 @@ def level(block):
 
 
 def same_data(one, other):
-    """Whether two byte strings are CBOR of the same data."""
+    """Returns true if two byte strings are CBOR of the same data."""
     try:
         return data_of(one)[0] == data_of(other)[0]
     except NotWellFormed:

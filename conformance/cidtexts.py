@@ -7,7 +7,7 @@ from judge import MOST_DIGEST, is_cid, varint
 
 BASE58 = "123456789ABCDEFGHJKLMNPQRSTUVWXYZabcdefghijkmnopqrstuvwxyz"
 BASE32, BASE16 = "abcdefghijklmnopqrstuvwxyz234567", "0123456789abcdef"
-MOST = 172  # characters behind the prefix: no CID with a digest of at most 64 bytes has so many
+MOST = 172  # characters after the prefix: no CID with a digest of at most 64 bytes has more
 CAUSES = {
     "unknown base": ("the text begins with none of b, B, f, z and Q, or is empty", "multibase, Format: the first character names the base; a codec need not know all"),
     "too long": (f"more than {MOST} characters stand behind the prefix", "no standard bounds a CID; this codec does"),
@@ -49,12 +49,12 @@ def base58(data, alphabet=BASE58):
 
 
 def written(cid):
-    """Of version 0 in base58btc; of version 1 in base32, behind b."""
+    """For version 0, in base58btc; for version 1, in base32 after b."""
     return base58(cid) if cid[:2] == b"\x12\x20" else "b" + base32(cid)
 
 
 def of_bits(text, alphabet, width, strict=True):
-    """The bytes, of so many bits a character; where it is strict with no other bits behind them."""
+    """The bytes, for a base with this many bits a character; if it is strict, no other bits may follow them."""
     bits = "".join(f"{digit_of(it, alphabet):0{width}b}" for it in text)
     whole = len(bits) // 8 * 8
     if len(bits) - whole >= width:
@@ -65,7 +65,7 @@ def of_bits(text, alphabet, width, strict=True):
 
 
 def of_number(text):
-    """The bytes of base58btc, of which none are zero in front."""
+    """The bytes of base58btc, none of which are zero at the front."""
     number = 0
     for at, it in enumerate(text):
         if at == 0 and it == BASE58[0]:
@@ -86,7 +86,7 @@ READERS = {
     "f": lambda rest: of_bits(rest, BASE16, 4),
     "z": of_number,
 }
-# Of texts that others take, where that is open: the question, and how they read the text.
+# For texts that others take, if that is open: the question, and how they read the text.
 OTHERS = (
     ("case", "bB", lambda rest: of_bits(rest.lower(), BASE32, 5)),
     ("case", "f", lambda rest: of_bits(rest.lower(), BASE16, 4)),
@@ -98,7 +98,7 @@ OTHERS = (
 
 
 def has_long_varint(cid):
-    """Whether the codec or the hash code of a CID is 2^63 or more."""
+    """Returns true if the codec or the hash code of a CID is 2^63 or more."""
     numbers, rest = [], cid
     while cid[:2] != b"\x12\x20" and len(numbers) < 3:
         number, rest = varint(rest)
@@ -107,7 +107,7 @@ def has_long_varint(cid):
 
 
 def read(text, most_digest=MOST_DIGEST):
-    """The binary CID of a text; or Refused."""
+    """Returns the binary CID of a text; or raises Refused."""
     is_prefixed = text[:1] != "Q"
     if is_prefixed and text[:1] not in READERS:
         raise Refused("unknown base")
@@ -122,7 +122,7 @@ def read(text, most_digest=MOST_DIGEST):
 
 
 def expected(text):
-    """What is right of a text, in the words of a vector."""
+    """The right answer for a text, in the words of a vector."""
     try:
         return {"verdict": "ok", **in_words(read(text))}
     except Refused as refused:

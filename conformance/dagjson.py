@@ -42,7 +42,7 @@ class Number(str):
 
 
 class Members(list):
-    """Of a map the keys and values, in the text's order."""
+    """The keys and values of a map, in the text's order."""
 
 
 def name(block):
@@ -68,7 +68,7 @@ def plain(data):
 
 
 def has_reserved_key(data):
-    """Whether a map in it has the key `/`: of such data no text is read as it."""
+    """Returns true if a map in it has the key `/`: no text is read as such data."""
     if isinstance(data, dict):
         return "/" in data or any(map(has_reserved_key, data.values()))
     return isinstance(data, list) and any(map(has_reserved_key, data))
@@ -79,7 +79,7 @@ def to_json(data):
 
 
 def read(text, floats=False):
-    """The data of a text, which is bytes; or Refused: what is no JSON before what is no data, and of that the first in the text."""
+    """Returns the data of a text, given as bytes; or raises Refused: for what is not JSON first, then for the first that is not data."""
     try:
         told = text.decode("utf-8")
     except UnicodeDecodeError:
@@ -88,7 +88,7 @@ def read(text, floats=False):
 
 
 def json_of(told):
-    """The value, of which a map is its Members, and a number that is no integer a Number."""
+    """The value, with each map as its Members, and each number that is not an integer as a Number."""
 
     def no_constant(_):
         raise Refused("no JSON")
@@ -103,14 +103,14 @@ def json_of(told):
         raise Refused("no JSON")
     rest = told.lstrip(blank)[end:]
     if isinstance(value, (int, Number)) and not isinstance(value, bool) and rest.strip(f'{blank}[]{{}},:"')[:1] == rest[:1] != "":
-        raise Refused("no JSON")  # a number that is none, as 01 or 1x
+        raise Refused("no JSON")  # an invalid number, such as 01 or 1x
     if rest.strip(blank):
         raise Refused("trailing data")
     return value
 
 
 def of_json(value, floats, around=0):
-    """The data of the value, with so many lists and maps around it."""
+    """The data of the value, with this many lists and maps around it."""
     if around > DEEPEST:
         raise Refused("too deep")
     if isinstance(value, Number):
@@ -137,7 +137,7 @@ def of_members(members, floats, around):
 
 
 def reserved(members):
-    """A link or bytes, of a map with the key `/`."""
+    """The link or the bytes that a map with the key `/` says."""
     inner = members[0][1]
     if len(members) == 1 and type(inner) is str:
         try:
@@ -158,7 +158,7 @@ def reserved(members):
 
 
 def expected(given):
-    """What is right of a text, in the words of a vector: without floats, and with them where that is something else."""
+    """The right answer for a text, in the words of a vector: without floats, and with them if that differs."""
     text = given.encode() if isinstance(given, str) else given
     said, other = expected_in(text, False), expected_in(text, True)
     is_open = said["verdict"] != other["verdict"]

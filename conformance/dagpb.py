@@ -27,7 +27,7 @@ HASH, NAME, TSIZE = 0x0A, 0x12, 0x18  # of a link
 
 
 class Refused(Exception):
-    """The cause, a key of CAUSES, and how many bytes stand in front of what is wrong: a number, a tag, or a CID."""
+    """The cause, a key of CAUSES, and how many bytes come before what is wrong: a number, a tag, or a CID."""
 
 
 def number(block, at, end):
@@ -46,7 +46,7 @@ def number(block, at, end):
 
 
 def counted(block, at, end):
-    """Where as many bytes begin and end as the number at this place says."""
+    """Returns where as many bytes begin and end as the number at this place says."""
     count, begin = number(block, at, end)
     if count > end - begin:
         raise Refused("truncated", at)
@@ -73,7 +73,7 @@ def link(block, at, end, most_digest):
 
 
 def read(block, most_digest=MOST_DIGEST):
-    """The links of a node, and its data, or none. The data stands behind the links, or in front of them."""
+    """The links of a node, and its data, or None. The data stands after the links, or before them."""
     links, data, at, is_closed = [], None, 0, False
     while at < len(block):
         tag, value = number(block, at, len(block))
@@ -99,7 +99,7 @@ def is_node(block, most_digest):
 
 
 def field(tag, value):
-    """A field, as it is written; or nothing, where there is no such field."""
+    """A field, as it is written; or nothing, if there is no such field."""
     if value is None:
         return b""
     return varint(tag) + (varint(value) if isinstance(value, int) else varint(len(value)) + value)
@@ -119,7 +119,7 @@ def is_text(name):
 
 
 def question(block, links, data):
-    """The open question of a node, or none."""
+    """The open question about a node, or None."""
     if block not in (spell(links, data), field(DATA, data) + spell(links)):
         return "spelling"
     if not all(is_text(name) for _, name, _ in links):
@@ -128,7 +128,7 @@ def question(block, links, data):
 
 
 def model(links, data=None):
-    """The data model of a node (Logical Format), or none where a name is not UTF-8."""
+    """The data model of a node (Logical Format), or None if a name is not UTF-8."""
     if not all(is_text(name) for _, name, _ in links):
         return None
     parts = [{"Hash": Link(hash)} | ({} if name is None else {"Name": name.decode()}) | ({} if size is None else {"Tsize": size}) for hash, name, size in links]
@@ -140,7 +140,7 @@ def in_words(hash, name, size):
 
 
 def expected(block):
-    """What is right of the block, in the words of a vector."""
+    """The right answer for the block, in the words of a vector."""
     try:
         links, data = read(block)
     except Refused as refused:

@@ -121,7 +121,7 @@ def leaf_of(first, b):
     elif first // 32 == 6: return link_of(first, b)
     else: return simple_of(first, b)
 
-# A loop, where the spec calls itself for the items after the first: it ends with the first that is refused, whatever the count.
+# A loop. The spec calls itself for the items after the first: it ends with the first that is refused, whatever the count.
 def items_of(one, count, b):
     items = []
     for _ in range(count):

@@ -37,7 +37,7 @@ def read(path):
 
 
 def names_by_spec(source):
-    """Of each spec that a file names the names that follow, without the `_` after those that Python has."""
+    """For each spec that a file names, the names that follow, without the `_` after those that Python has too."""
     found, spec = {}, None
     for section, name in OF_PYTHON.findall(source):
         spec = section or spec
@@ -48,7 +48,7 @@ def names_by_spec(source):
 
 
 def other_names():
-    """Where the two files have other names than the specs, or in another order; of WHOLE specs they have all."""
+    """Tells where the two files have other names than the specs, or in another order. WHOLE specs must be there with all their names."""
     found = names_by_spec(read("conformance/decode.py")) | names_by_spec(read("conformance/decode_uses.py"))
     yield from (f"of {spec}: nothing" for spec in WHOLE if spec not in found)
     for spec, names in found.items():
@@ -58,9 +58,9 @@ def other_names():
             yield f"of {spec}: {differing if spec in WHOLE and differing else f'another order, or other names: {names}'}"
 
 
-# ---- vectors: of each its name, its block, and what it says of that
+# ---- vectors: for each its name, its block, and what it says of that
 
-NAMES = {  # what a refusal names, by the cause; where it is told by a head, by the head's major type
+NAMES = {  # what a refusal names, by the cause; if a head tells it, by the head's major type
     "truncated": {b"any", b"u64", b"bytes", b"string", b"array", b"map", b"map key", b"tag", b"cid"},
     "invalid UTF-8": {b"string", b"map key"}, "key no text": {b"map key"}, "other tag": {b"CBOR tag", b"CBOR tag head"},
     "tag without bytes": {b"cid"}, "no CID": {b"Invalid CID"}, "simple value": {b"any"}, "float": {b"any"},
@@ -70,7 +70,7 @@ OF_HEADS = [{b"u64"}, {b"any"}, {b"bytes", b"cid"}, {b"string", b"map key"}, {b"
 
 
 def stated():
-    """All vectors of blocks; and of what is around blocks those in which one is judged."""
+    """All vectors of blocks; and of the vectors of what is around blocks, those in which a block is judged."""
     yield from ((it["id"], block_of(it), it) for it in vectors.subjects("blocks"))
     for it in (*vectors.subjects("paths"), *vectors.subjects("segments")):
         is_none = it.get("cause") == "no block"
@@ -94,7 +94,7 @@ def stated_in(file, vector):
 
 
 def printed():
-    """What `crates/tests_types` says that is printed of refusals: the bytes, and all that is said, with names and numbers."""
+    """What `crates/tests_types` says is printed for refusals: the bytes, and the whole message, with names and numbers."""
     source = read("crates/tests_types/src/tests/refusals.rt")
     rows = "".join(re.findall(r"^const (?:LEAVES|TREES|LINKS): .*?^\];$", source, re.MULTILINE | re.DOTALL))
     found = re.findall(r'\(\s*(b"[^"]*"),\s*(?:r#"(.*?)"#|"(\w+)"),?\s*\)', rows)
@@ -103,13 +103,13 @@ def printed():
         yield ast.literal_eval(block), told or plain
 
 
-# ---- what the function answers, held against that
+# ---- what the function answers, compared with that
 
-KINDS = {"boolean": "bool", "text": "string", "mapping": "map"}  # what vectors call by another name than trees do
+KINDS = {"boolean": "bool", "text": "string", "mapping": "map"}  # the words for which vectors and trees have different names
 
 
 def differing(module, block, said):
-    """What the function says otherwise than is stated: of the block, and of the item at its front."""
+    """What the function says differently from the vector: about the block, and about the item at its front."""
     whole, first = module.decode(block), module.decode_first(block)
     if whole[0] == "got":
         return "a block" if said["verdict"] != "ok" else "the first item" if first != whole else other_tree(module, block, whole[1], said)
@@ -124,7 +124,7 @@ def differing(module, block, said):
 
 
 def other_tree(module, block, tree, said):
-    """What is other of the kind, the links, the spelling or the DAG-JSON."""
+    """What differs in the kind, the links, the spelling or the DAG-JSON."""
     kind, links, data = KINDS.get(tree[0], tree[0]), list(map(cidtexts.written, module.links_of(tree))), data_of(tree)
     if kind != said.get("kind", kind) or links != said.get("links", links):
         return f"{kind} {links}"
@@ -133,7 +133,7 @@ def other_tree(module, block, tree, said):
 
 
 def other_why(block, why, place, said):
-    """What is other of the variant, of what is named, or of the byte that was found."""
+    """What differs in the variant, in what is named, or in the byte that was found."""
     cause, name = said.get("cause"), why[1] if len(why) > 1 else None
     if cause and variant_of(why) != VARIANTS[cause]:
         return f"{why}"
@@ -150,7 +150,7 @@ def variant_of(why):
 
 
 def data_of(tree):
-    """The tree as judge.py has data."""
+    """The tree, as the data that judge.py has."""
     kind, *of = tree
     if kind == "list":
         return list(map(data_of, of[0]))
@@ -173,13 +173,13 @@ def written(why):
 
 
 def told_by(module, kept, rows):
-    """The names of vectors, and the rows of what is printed, of which the function says something else."""
+    """The names of vectors, and the rows of printed messages, of which the function says something else."""
     found = [f"{name}: {it}" for name, block, said in kept if (it := differing(module, block, said))]
     answers = [(block, told, module.decode(block)) for block, told in rows]
     return found, [f"{block.hex()}: {it}" for block, told, it in answers if it[0] == "got" or written(it[1]) != told]
 
 
-# ---- mistakes: the file, what is there, and what is put in its place
+# ---- mistakes: the file, what is there, and what takes its place
 
 MISTAKES = [
     ("decode", "2, 2**8, b", "2, 2**8 - 1, b"),
@@ -208,7 +208,7 @@ MISTAKES = [
 def made(name="", old="", new=""):
     """The two files as one module, with that mistake in one of them."""
     module = types.ModuleType("decoding")
-    for it in ("decode", "decode_uses"):  # the latter also in place of what the first takes from it
+    for it in ("decode", "decode_uses"):  # also in place of what the first file takes from the second
         source = read(f"conformance/{it}.py")
         assert it != name or source.count(old) == 1, old
         exec(compile(source.replace(old, new) if it == name else source, f"{it}.py", "exec"), vars(module))
@@ -216,7 +216,7 @@ def made(name="", old="", new=""):
 
 
 def planted(kept, rows):
-    """Of each mistake what is put in place, how many vectors tell it, and how many rows of what is printed."""
+    """For each mistake, what it puts in, how many vectors tell it, and how many rows of printed messages."""
     for name, old, new in MISTAKES:
         yield new, *map(len, told_by(made(name, old, new), kept, rows))
 
@@ -225,7 +225,7 @@ EDITED = 20000
 
 
 def differences():
-    """All lines of what differs: names, vectors, what is printed, edited blocks; and mistakes that nothing tells."""
+    """All lines about what differs: names, vectors, printed messages, edited blocks; and mistakes that nothing tells."""
     kept, rows = list(stated()), list(printed())
     yield from other_names()
     for them in told_by(made(), kept, rows):
@@ -236,7 +236,7 @@ def differences():
 
 
 def edited(count, seed):
-    """So many blocks of the vectors with a byte changed, put in or left out, or cut; and what judge.py says of each."""
+    """Blocks of the vectors with a byte changed, put in or left out, or cut: this many, and what judge.py says of each."""
     rng = random.Random(seed)
     blocks = [it for it in map(block_of, vectors.load()) if 0 < len(it) <= 600]
     for number in range(count):

@@ -155,7 +155,7 @@ def name(t, out=None):
 
 
 def build(entries, n):
-    """The node of layer n over entries that are in order."""
+    """The node of layer n over entries in order."""
     t = {"layer": n, "l": None, "e": []}
     run = []
 
@@ -196,7 +196,7 @@ class Refused(Exception):
 
 
 class Partial:
-    """A tree of which some nodes are there: each change copies what it touches. `read` are the names that were opened."""
+    """A tree, some of whose nodes are there: each change copies what it touches. `read` has the names that were opened."""
 
     def __init__(self, blocks, root):
         self.blocks, self.read = blocks, set()
@@ -364,7 +364,7 @@ def undo(blocks, root, ops):
 
 
 def form_of(op):
-    """The record before and the record after, where they are those of the action."""
+    """The record before and the record after, if they are those of the action."""
     now, prev = op["cid"], op.get("prev")
     if (op["action"] == "create") != (prev is None) or (op["action"] == "delete") != (now is None):
         raise Refused("form")
@@ -372,7 +372,7 @@ def form_of(op):
 
 
 def verify(body, known, rev):
-    """The commit of an event, where it is right beside the root and the revision that one knew (None: nothing)."""
+    """The commit of an event, if it is right for the root and the revision that are known (None: nothing)."""
     if body["tooBig"]:
         raise Refused("big")
     if body["rebase"]:
@@ -426,7 +426,7 @@ def record(n):
 
 
 def change(rng, entries, count, keys):
-    """Ops on entries, and the entries behind them. At most one op a path."""
+    """Ops on entries, and the entries after them. At most one op a path."""
     ops, after, seen = [], dict(entries), set()
     while len(ops) < count:
         k = rng.choice(keys)
@@ -467,7 +467,7 @@ def good(rng, entries, ops, after):
 
 
 def key_pool(rng, count):
-    """Keys, of which a good part is of high layers."""
+    """Keys, a good part of which are of high layers."""
     out = []
     while len(out) < count:
         k = b"app.bsky.feed.post/%011d" % rng.randrange(10**8)
@@ -481,7 +481,7 @@ def flip(c):
 
 
 def frames_of(seed):
-    """Rows of what is so of a frame, the frame, the root that one knew, and the verdict."""
+    """Rows: what is so of a frame, the frame, the root that is known, and the verdict."""
     rng = random.Random(seed)
     out = []
 
@@ -532,7 +532,7 @@ def frames_of(seed):
 
 
 def events_of(rng, did):
-    """A random event: what is so of a frame, and the frame, good and faulty. Each is of a repository of its own, so that none is judged
+    """A random event: what is so of a frame, and the frame, good and faulty. Each has a repository of its own, so that none is judged
     by those before it."""
     size, count = rng.choice((5, 8, 20, 40)), rng.choice((1, 1, 2, 4))
     pool = key_pool(rng, size * 3 // 2)
@@ -583,7 +583,7 @@ def spelled(data):
 
 
 def few(seed):
-    """Three frames of each verdict, of those that are short."""
+    """Three frames of each verdict, taken from the short ones."""
     seen = {}
     for what, frame, known, rev, got in frames_of(seed):
         verdict = got.split()[0]
@@ -663,7 +663,7 @@ class Chain:
 
 
 def streams_of(seed):
-    """Rows of what is so of a stream, the stream, what is said of it, and what is told."""
+    """Rows: what is so of a stream, the stream, what is said of it, and what is told."""
     rng = random.Random(seed)
     time = "2026-01-01T00:00:00Z"
     first, second, odd = Chain(rng, "did:plc:abc", 6), Chain(rng, "did:web:b.example", 3), Chain(rng, "did:\n%", 0)
@@ -737,7 +737,7 @@ def write_streams(folder, seed=1):
 
 
 def trees(seed):
-    """Changes that are undone on the nodes of an event: what is so of them, the root, the nodes, the changes, and the root before or why there is none."""
+    """Changes undone on an event's nodes: what is so of them, the root, the nodes, the changes, and the root before, or why there is none."""
     rng = random.Random(seed)
     rows, changes = [], []
 
@@ -789,11 +789,11 @@ def trees(seed):
     print("];")
 
 
-# ---- frames that are dear to judge
+# ---- frames that are costly to judge
 
 
 def hostile(folder, most=1_990_000):
-    """Files of frames of up to so many bytes of blocks that cost as much as they can. None of them is right."""
+    """Files of frames with at most this many bytes of blocks, which cost as much as they can. None of them is right."""
     folder = pathlib.Path(folder)
     folder.mkdir(parents=True, exist_ok=True)
 
@@ -810,7 +810,7 @@ def hostile(folder, most=1_990_000):
     block = node(None, wide)
     put("wide-200-ops", [(cid(block), block)], cid(block), [{**op, "path": k.decode(), "prev": record(2)} for k in keys[-200:]])
     put("one-key-200-times", [(cid(block), block)], cid(block), [{**op, "cid": record(2), "prev": record(2)}] * 200)
-    # keys of 1,024 bytes that share all but the last: short in the node, and long when read
+    # keys of 1,024 bytes that share all but the last byte: short in the node, and long when read
     long = sorted(b"x" * 1016 + b"%08d" % n for n in range(200000) if layer(b"x" * 1016 + b"%08d" % n) == 0)[: most // 74]
     block = node(None, [(0 if i == 0 else 1016, k if i == 0 else k[1016:], record(2), None) for i, k in enumerate(long)])
     put("long-keys-200-ops", [(cid(block), block)], cid(block), [{**op, "path": k.decode(), "prev": record(2)} for k in long[-200:]])
@@ -839,7 +839,7 @@ def hostile(folder, most=1_990_000):
 
 
 def frames(count):
-    """Frames of changes of a repository of 10,000 records, each of what the one before left; with the root before each."""
+    """Frames of changes of a repository of 10,000 records, each after the one before; with the root before each."""
     rng = random.Random(5)
     pool = key_pool(rng, 15000)
     entries = {k: record(i) for i, k in enumerate(pool[:10000])}
@@ -856,7 +856,7 @@ def frames(count):
 
 
 def speed(count):
-    """Times the judgement of frames, by dicts."""
+    """Times how dicts judge frames."""
     made, known = list(frames(count)), "3k"
     start = time.perf_counter()
     for frame, before in made:
@@ -870,7 +870,7 @@ def stream(path, count):
 
 
 def check(seed):
-    """Of many random batches: undoing opens no node but those in the CAR, and the frame that is short of any one node is refused."""
+    """Of many random batches: undoing opens no node but those in the CAR, and a frame that lacks any one node is refused."""
     rng = random.Random(seed)
     for _ in range(300):
         size = rng.choice((0, 1, 2, 3, 10, 40, 120))

@@ -78,7 +78,7 @@ def cid_texts():
 
 
 NUMBERS = b"\x83\x01\x02\x03"
-AWAY, AWAY_TOO = name(b"\x61a"), name(b"\x61b", 0x55)  # of blocks that no file here has
+AWAY, AWAY_TOO = name(b"\x61a"), name(b"\x61b", 0x55)  # names of blocks that no file here has
 ROOT = spell({"a": Link(AWAY), "b": Link(name(NUMBERS))})
 SMALL = spell(Link(AWAY_TOO))
 WITHIN = spell([Link(name(SMALL, code=0)), Link(name(NUMBERS, code=0))])
@@ -88,7 +88,7 @@ PLAIN = header(name(ROOT)) + section(ROOT) + section(NUMBERS)
 
 
 def headers():
-    """Blocks behind a length, of which most are no header."""
+    """Blocks after a length, most of which are not headers."""
     one = b"\xd8\x2a\x45\0\x01\x55\0\0"
     root, version = b"\x65roots", b"\x67version"
     blocks = {
@@ -176,7 +176,7 @@ def files():
 
 
 def nodes():
-    """Blocks of DAG-PB: nodes first, then what is none."""
+    """Blocks of DAG-PB: nodes first, then blocks that are not nodes."""
     form, strict, links = "DAG-PB, Serial Format", "DAG-PB, Protobuf Strictness", "DAG-PB, Logical Format"
     encoding, varints = "protobuf, Length-Delimited Records", "protobuf, Base 128 Varints"
     raw, away = b"\x0a" + counted(RAW), b"\x0a" + counted(AWAY)
@@ -246,7 +246,7 @@ def nodes():
 
 
 def json_texts():
-    """DAG-JSON, most of it no other codec's concern: sound forms first."""
+    """DAG-JSON, most of it of concern to no other codec: sound forms first."""
     ints, floats, maps, reserved, json = "DAG-JSON, Integers", "DAG-JSON, Floats", "DAG-JSON, Maps", "DAG-JSON, Reserved namespace", "RFC 8259"
     for number in (0, 1, -1, 23, 24, 2**53, 2**53 + 1, 2**63, 2**64 - 1, 2**64, -(2**63), -(2**64), -(2**64) - 1, 10**30):
         yield f"integer-{'minus-' if number < 0 else ''}{abs(number)}", str(number), "an integer, with all its digits", ints
@@ -292,7 +292,7 @@ def json_texts():
     yield "first-no-json", '[1.5,', "no JSON, and before its end a number with a fraction", json
 
 
-# What a path is of, and paths in it: of each kind of segment, those that are near one, and those that are long.
+# Blocks and paths in them: each kind of segment, segments that are close to one, and long segments.
 TREE = {
     "a": [{"b": "hi", "": 7, "0": "zero"}, [1, [2, -3]], None, True, b"xy", Link(bytes.fromhex("01711220") + bytes(32))],
     "0": "key", "a/b": 1, "\u00e9": [False], "aa": {"x": {}}, "": "empty", "link": [Link(bytes.fromhex("01550000"))], "many": [0] * 30 + [[5]],

@@ -45,14 +45,14 @@ def data(rng, floats=False, levels=4):
 
 
 def any_head(rng, major, argument, fault):
-    """The shortest head; or, where a fault is to be, a longer one."""
+    """The shortest head; or a longer one, if there is to be a fault."""
     if rng.random() < fault:
         return wide(major, argument, rng.choice([it for it in (1, 2, 4, 8) if argument < 256**it]))
     return head(major, argument)
 
 
 def misspelled(rng, it, fault):
-    """The data as CBOR, where each part has such a chance of a fault that DAG-CBOR forbids, or RFC 8949 too."""
+    """The data as CBOR, each part with this chance of a fault that DAG-CBOR forbids, or RFC 8949 too."""
     if rng.random() < fault / 3:
         return rng.choice((b"\xf7", b"\xf9\x3c\x00", b"\xfb\x3f\xf8" + bytes(6), b"\xc1\x00", b"\xff", b"\x1c", b"\xf8\x20", b"\x9f\xff"))
     if isinstance(it, Link):
@@ -90,7 +90,7 @@ def damaged(rng, block):
 
 
 def random_vectors(count, seed, floats=False):
-    """So many: a third sound, a third misspelled, a third damaged, where the judge finds so."""
+    """This many blocks: a third sound, a third misspelled, a third damaged, if the judge finds so."""
     rng = random.Random(seed)
     for number in range(count):
         it = data(rng, floats)

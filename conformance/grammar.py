@@ -15,7 +15,7 @@ V0 = b"\x12\x20" + SHA
 
 
 def wide(major, argument, width):
-    """The head of the argument in so many bytes behind the first; in none where the width is 0."""
+    """The head of the argument in this many bytes after the first; with width 0 in none."""
     if width == 0:
         return bytes([major << 5 | argument])
     information = next(key for key, it in WIDTHS.items() if it == width)
@@ -23,7 +23,7 @@ def wide(major, argument, width):
 
 
 def payload(major, argument):
-    """What stands behind such a head: so many letters, zeros, or entries with keys in order."""
+    """What follows such a head: this many letters, zeros, or entries with keys in order."""
     if major in (2, 3):
         return b"a" * argument
     if major == 4:
@@ -263,7 +263,7 @@ def link(payload, form=b"\xd8\x2a"):
 
 
 def varint(number, width=0):
-    """The unsigned varint, or a longer one where a width is given."""
+    """The unsigned varint, or a longer one if a width is given."""
     parts = []
     while number >= 128 or len(parts) + 1 < width:
         parts.append(number & 127 | 128)
@@ -443,8 +443,8 @@ def trailing():
 
 
 ONE_TO_25 = "".join(head(0, number).hex() for number in range(1, 26))
-# RFC 8949, appendix A: those that DAG-CBOR has too, as Python tells them, and those that it has not; and appendix F, of what is not
-# well-formed.
+# RFC 8949, appendix A: the examples that DAG-CBOR has too, as Python says them, and those that it does not have; and appendix F, of
+# what is not well-formed.
 SOUND = {
     "00": 0, "01": 1, "0a": 10, "17": 23, "1818": 24, "1819": 25, "1864": 100, "1903e8": 1000, "1a000f4240": 1000000, "1b000000e8d4a51000": 1000000000000,
     "1bffffffffffffffff": 18446744073709551615, "3bffffffffffffffff": -18446744073709551616, "20": -1, "29": -10, "3863": -100, "3903e7": -1000,

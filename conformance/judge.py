@@ -8,8 +8,8 @@ import math
 import struct
 from dataclasses import dataclass, field
 
-# Each cause, what it is, and the rules that it breaks, as standards.py has them. What a reader `should` refuse by the standard, it may be
-# lenient in; a block it is not.
+# Each cause, what it is, and the rules that it breaks, as standards.py has them. If a reader only `should` refuse it by the standard, it
+# may be lenient; a block it is not.
 SHORTEST = "DAG-CBOR, Strictness 2: integers, and lengths in major types 2 to 5, are as short as possible; a decoder should refuse others"
 CAUSES = {
     "truncated": ("the bytes end before the item does", "RFC 8949, appendix F: too little data is not well-formed"),
@@ -58,8 +58,8 @@ KINDS[Link] = "link"
 
 
 class Refused(Exception):
-    """The cause, a key of CAUSES, and its place: the offset of the byte with which it is told, or behind all bytes; and the causes that
-    stand there as well, or None where reading on may show some."""
+    """The cause, a key of CAUSES, and its place: the offset of the byte with which it is told, or after all bytes; and the causes that
+    stand there as well, or None if reading on may show some."""
 
     def __init__(self, cause, place, also=()):
         super().__init__(cause, place)
@@ -68,15 +68,15 @@ class Refused(Exception):
 
 @dataclass
 class Reader:
-    """The bytes, what is asked of them, and how many were taken."""
+    """The bytes, what is asked about them, and how many were taken."""
 
     block: bytes
-    floats: bool = False  # whether a float of 64 bits is an item
+    floats: bool = False  # true if a float of 64 bits is an item
     deepest: float = DEEPEST
     most_digest: float = MOST_DIGEST
     overlooked: set | frozenset = frozenset()  # causes and places that do not stop it
     at: int = 0
-    tokens: list = field(default_factory=list)  # of each item its kind, its number and its payload's place, and where its payload ends
+    tokens: list = field(default_factory=list)  # for each item its kind, its number and its payload's place, and where its payload ends
 
     def note(self, kind, number=0, payload=0):
         self.tokens.append((kind, number, self.at - payload, self.at))
@@ -86,7 +86,7 @@ class Reader:
             raise Refused(cause, place, None)
 
     def take(self, count):
-        """So many bytes more."""
+        """Takes this many bytes more."""
         taken = self.block[self.at : self.at + count]
         if len(taken) < count:
             raise Refused("truncated", len(self.block))
@@ -94,7 +94,7 @@ class Reader:
         return taken
 
     def head(self, wanted=None, otherwise=None):
-        """Major type and argument (RFC 8949, 3), of which the shortest head is the only one (DAG-CBOR, Strictness)."""
+        """Major type and argument (RFC 8949, 3). Only the shortest head of an argument is valid (DAG-CBOR, Strictness)."""
         first, major, information = self.first(wanted, otherwise)
         if information not in WIDTHS:
             return major, information
@@ -125,7 +125,7 @@ class Reader:
         return first, major, information
 
     def is_long_tag(self, information):
-        """Whether the number of the tag that begins before this byte, and of which not all need be there, has a shorter head."""
+        """Returns true if the number of the tag that begins before this byte has a shorter head. Not all of the number need be there."""
         number = self.block[self.at : self.at + WIDTHS[information]]
         return len(number) == WIDTHS[information] and len(head(6, int.from_bytes(number, "big"))) <= len(number)
 
@@ -139,7 +139,7 @@ class Reader:
             return payload.decode("utf-8", "surrogateescape")
 
     def link(self):
-        """Behind d8: the tag's number 42, and a byte string of a zero and a CID."""
+        """After d8: the tag's number 42, and a byte string of a zero and a CID."""
         number = self.take(1)
         if number != b"\x2a":
             raise Refused("other tag", self.at - 1, ["non-minimal"] if number[0] < 24 else [])
@@ -153,7 +153,7 @@ class Reader:
         return Link(payload[1:])
 
     def entries(self, count, around):
-        """So many keys and values; keys are texts and rise: the shorter first, those of one length by their bytes."""
+        """This many keys and values; keys are texts and rise: the shorter first, those of one length by their bytes."""
         found, before = {}, None
         for _ in range(count):
             _, length = self.head(3, "key no text")
@@ -166,7 +166,7 @@ class Reader:
         return found
 
     def item(self, around=0):
-        """An item with so many lists and maps around it."""
+        """An item with this many lists and maps around it."""
         if around > self.deepest:
             raise Refused("too deep", self.at - 1)
         if self.block[self.at : self.at + 1] == b"\xd8":
@@ -201,7 +201,7 @@ class Reader:
 
 
 def causes(block, **asked):
-    """Of a block that is refused the Refused, with all causes that stand at its byte; else none."""
+    """For a block that is refused, the Refused, with all causes that stand at its byte; else None."""
     found, place = [], None
     while True:
         refused = refusal(block, overlooked={(it, place) for it in found}, **asked)
@@ -222,8 +222,8 @@ def refusal(block, **asked):
 
 
 def tokens(block):
-    """Of each item, in the order of the block, its kind, its number and the place of its payload, which is else that behind its head; of
-    refused bytes those that stand whole before the place."""
+    """For each item, in the order of the block, its kind, its number and the place of its payload, or the place after its head if it
+    has none; for refused bytes, the items that stand whole before the place."""
     reader, place = Reader(block), len(block)
     try:
         reader.item()
@@ -233,7 +233,7 @@ def tokens(block):
 
 
 def judge(block, **asked):
-    """The data of the block; or Refused."""
+    """Returns the data of the block; or raises Refused."""
     reader = Reader(block, **asked)
     data = reader.item()
     if reader.at < len(block):
@@ -242,7 +242,7 @@ def judge(block, **asked):
 
 
 def varint(data):
-    """The number that begins the bytes as an unsigned varint below 2^64 in shortest form, and the rest; or none."""
+    """The number at the front of the bytes, an unsigned varint below 2^64 in shortest form, and the rest; or None."""
     number = 0
     for at, byte in enumerate(data[:10]):
         number |= (byte & 127) << 7 * at

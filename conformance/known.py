@@ -6,7 +6,7 @@ import os
 import subprocess
 import sys
 
-MANY = ("all", "ours")  # in the place of names
+MANY = ("all", "ours")  # in place of names
 # The version of this repository.
 OURS = "sed -n '/^## /{s/^## //p;q}' $REPO/CHANGELOG.md"
 HERE = os.path.dirname(os.path.abspath(__file__))
@@ -35,7 +35,7 @@ def environment():
 
 
 def peers(names):
-    """What is told of each."""
+    """What is said of each."""
     with open(f"{HERE}/peers/peers.json", encoding="utf-8") as file:
         kept = {it["name"]: it for it in json.load(file)}
     if names == "ours":
@@ -45,8 +45,8 @@ def peers(names):
 
 
 def built(peer):
-    """What is told of it, where it is built, and its command for each subject that it has: `run`, which is of blocks, and behind it the
-    subject's word. Who has no word for writing is handed the loose form of data. Where it is not here, why, and no command."""
+    """What is said of the peer, where it is built, and its command for each subject that it has: `run`, which is for blocks, and then the
+    subject's word. A peer without a word for writing gets the loose form of data. If it is not here: why, and no command."""
     os.makedirs(OUT, exist_ok=True)
     made = ran(peer.get("build", "true"))
     if made.returncode:

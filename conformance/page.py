@@ -44,7 +44,7 @@ MOST = 60
 
 
 def cell(row):
-    """Of a group: how many did not hold; the worst kind gives the colour, and the other stands small below it."""
+    """For a group: how many did not hold. The worst kind gives the colour, and the other stands small below it."""
     if not row:
         return '<td class="none">&ndash;</td>'
     others = {it: row[it] for it in OUTCOMES if row[it] and it != "held"}

@@ -1,4 +1,4 @@
-"""How far a path leads in a block, by a walk of its own over what `judge` reads: a path as a text, or as a list of segments.
+"""How far a path leads in a block, by its own walk over what `judge` reads: a path as a text, or as a list of segments.
 
 A path is segments between slashes; empty ones say nothing, and nothing is escaped. From a map a segment leads to the value of that key,
 and from a list to the item whose index it is, from 0, in decimal without a sign and without zeros in front. A list of segments is taken as
@@ -18,13 +18,13 @@ OPEN = {
 
 
 def index_of(segment, count):
-    """The index that the segment is, of so many items; or none."""
+    """The index that the segment is, for this many items; or None."""
     is_decimal = segment.isascii() and segment.isdigit() and (segment == "0" or segment[0] != "0")
     return int(segment) if is_decimal and len(segment) < 20 and int(segment) < count else None
 
 
 def part_of(data, segment):
-    """The part to which the segment leads, and where it begins behind the item's first byte; or none."""
+    """The part to which the segment leads, and where it begins after the item's first byte; or None."""
     if isinstance(data, list):
         index = index_of(segment, len(data))
         if index is None:
@@ -50,7 +50,7 @@ def way(data, segments):
 
 
 def passed_by(path, count):
-    """How many bytes of a text its first segments are, so many, with the slash behind them."""
+    """How many bytes of a text its first segments are: this many, with the slash after them."""
     if count == 0:
         return 0
     pieces, seen = path.split("/"), 0
@@ -61,7 +61,7 @@ def passed_by(path, count):
 
 
 def expected(given):
-    """What is right of a block and a path, in the words of a vector."""
+    """The right answer for a block and a path, in the words of a vector."""
     block, path = given
     try:
         data = judge(block)
@@ -80,6 +80,6 @@ def expected(given):
 
 
 def is_numeral(segment):
-    """Whether some read it as an index, and others not."""
+    """Returns true if some read it as an index, and others do not."""
     digits = segment.strip().removeprefix("+").removeprefix("-")
     return digits.isascii() and digits.isdigit() and segment != str(int(digits))

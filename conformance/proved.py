@@ -1,4 +1,4 @@
-"""What the proved programs and the proved library say of blocks, in the words of a vector, to be held against the judge."""
+"""What the proved programs and the proved library say of blocks, in the words of a vector, to be compared with the judge."""
 
 import json
 import os
@@ -39,7 +39,7 @@ def wanted_links(block):
 
 
 def by_checks(vectors):
-    """Where `dagcbor check` and `dagcbor links` say something else."""
+    """Tells where `dagcbor check` and `dagcbor links` say something else."""
     blocks = [block_of(it) for it in vectors]
     lines = [it.hex() for it in blocks]
     checked = lines_of([program("dagcbor"), "check"], lines)
@@ -53,7 +53,7 @@ def by_checks(vectors):
 
 
 def by_places(vectors, library):
-    """Where the library has another place, another kind, other links, or spells the block in another way."""
+    """Tells where the library has another place, another kind or other links, or spells the block in another way."""
     with tempfile.TemporaryDirectory() as folder:
         source, include = f"{known.HERE}/peers/library.c", f"{ROOT}/crates/dagcbor_ffi/include"
         subprocess.run(["cc", "-O1", source, "-I", include, library, "-o", f"{folder}/library"], check=True)
@@ -84,7 +84,7 @@ def run(words, given):
 
 
 def by_texts(vectors):
-    """Where `dagcar show`, `name` or `make` say something else of a sound block."""
+    """Tells where `dagcar show`, `name` or `make` say something else about a sound block."""
     sound = [it for it in vectors if it["verdict"] == "ok" and "dag_json" in it]
     asked = [row for it in sound for row in of_block(it)]
     yield from differing(asked)
@@ -97,13 +97,13 @@ def of_block(vector):
 
 
 def by_forms(vectors):
-    """Where `dagcar` says something else of data for writers, of a CID as text, of a CAR file, of DAG-JSON, of DAG-PB or of a path."""
+    """Tells where `dagcar` says something else about data for writers, a CID as text, a CAR file, DAG-JSON, DAG-PB or a path."""
     judged = {"files": of_file, "cid-texts": of_cid_text, "dag-pb": of_node, "paths": of_path}
     yield from differing([judged.get(it["group"], of_json)(it) for it in vectors if it["group"] != "segments" and not is_beyond(it)])
 
 
 def is_beyond(vector):
-    """Whether it is a path that no word of a command line is, or that leads on from a link, or whose block is none."""
+    """Returns true for a path that no word of a command line can be, or that leads on from a link, or whose block is not one."""
     is_path = vector["group"] == "paths"
     return is_path and ("\0" in vector["path"] or vector["verdict"] == "refused" and vector.get("kind", "link") == "link")
 
@@ -135,19 +135,19 @@ CODECS = {0x55: "raw", 0x70: "dag-pb", 0x71: "dag-cbor", 0x72: "libp2p-key", 0x1
 
 
 def codec_of(text):
-    """That of a CID: of version 0 it is dag-pb."""
+    """The name of a CID's codec: for version 0 it is dag-pb."""
     cid = cidtexts.read(text)
     return 0x70 if cid[0] == 0x12 else varint(varint(cid)[1])[0]
 
 
 def missing_line(text):
-    """The line of a name that leads nowhere, with its codec."""
+    """The line for a name that leads nowhere, with its codec."""
     codec = codec_of(text)
     return f"missing {text} {CODECS.get(codec, f'codec {codec:#x}')}"
 
 
 def program_verdict(section, file):
-    """What the programs say of a section: of blocks of DAG-PB too, which the vectors leave to others, and of other codecs."""
+    """What the programs say of a section: also of blocks of DAG-PB, which the vectors leave to others, and of other codecs."""
     if section["verdict"] == "not read" and codec_of(section["cid"]) == 0x70:
         return dagpb.judged(file[section["block"] : section["end"]])[0]
     if section["verdict"] == "not read" and codec_of(section["cid"]) != 0x55:
@@ -175,7 +175,7 @@ def of_node(vector):
 
 
 def differing(asked):
-    """Of a name, the words of `dagcar`, what it is given and what it is to write, or the Front of that."""
+    """For a name, the words of `dagcar`, its input, and what it has to write, or the Front of that."""
     with ThreadPoolExecutor(os.cpu_count()) as pool:
         answers = pool.map(lambda row: run(row[1], row[2]), asked)
     for (name, word, _, wanted), answer in zip(asked, answers):

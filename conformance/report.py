@@ -1,4 +1,4 @@
-"""What was found of a peer, as text and as JSON."""
+"""What was found about a peer, as text and as JSON."""
 
 import json
 from collections import Counter
@@ -10,8 +10,8 @@ from verdicts import OUTCOMES, is_wrong, table
 
 @dataclass
 class Result:
-    """What is told of the peer, a Judged for each vector, of a random run the smallest cases, and of a vector's name what came of it
-    in an earlier run that may come again."""
+    """What is said of the peer: a Judged for each vector; for a random run the smallest cases; and by the names of vectors, what came of
+    them in an earlier run, which may come again."""
 
     about: dict
     judged: list = field(default_factory=list)
@@ -51,7 +51,7 @@ def text(result, most=20):
 
 
 def broken(judged):
-    """Of each cause in these what it says, by which standard."""
+    """For each of these causes, what it says, and by which standard."""
     index = vectors.index()
     found = {}
     for vector in (it.vector for it in reversed(judged) if "cause" in it.vector):
@@ -65,7 +65,7 @@ MADE = ("short", "truncations", "random")
 
 
 def as_table(results):
-    """A table in Markdown, of the vectors that are written out, and of how many cut blocks were taken."""
+    """A table in Markdown of the vectors that are written out, and of how many cut blocks were taken."""
     lines = ["| Peer | DAG-CBOR forbids it | Not as RFC 8949 either, or no answer |", "|---|---|---|"]
     for result in results:
         counts = Counter(it.outcome for it in result.judged if it.vector["group"] not in MADE)
@@ -82,7 +82,7 @@ def as_json(results):
 
 
 def earlier(path):
-    """Of such a file, by the peer's name, what came of each vector that did not hold."""
+    """From such a file, by the peer's name, what came of each vector that did not hold."""
     with open(path, encoding="utf-8") as file:
         return {peer["name"]: {it["id"]: it["outcome"] for it in peer["failures"]} for peer in json.load(file)}
 

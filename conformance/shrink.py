@@ -1,10 +1,10 @@
-"""The smallest case of what a random run found: near it, and of the same outcome and cause."""
+"""The smallest case of what a random run found: close to it, and with the same outcome and cause."""
 
 import cbor
 import fuzz
 from vectors import block_of
 
-MOST = 40  # bytes of a block of which any may be left out; of one that is not well-formed three times as many
+MOST = 40  # bytes of a block of which any may be left out; three times as many if the block is not well-formed
 AT_ONCE = 500
 
 
@@ -32,7 +32,7 @@ def smaller(block):
 
 
 def cuts(length, is_short):
-    """Where bytes that are left out begin and end: anywhere in a short block; in another the halves, the quarters and so on."""
+    """Where bytes that are left out begin and end: anywhere in a short block; in a longer one the halves, the quarters and so on."""
     if is_short:
         return [(at, behind) for at in range(length) for behind in range(at + 1, length + 1)]
     sizes = [length >> halved for halved in range(1, length.bit_length())]
@@ -40,7 +40,7 @@ def cuts(length, is_short):
 
 
 def fewer(head, count):
-    """The head of an argument that is less by so many, in as many bytes; of none, where there is no argument, the same."""
+    """The head with an argument that is less by this much, in as many bytes; if there is no argument, the same head."""
     if len(head) == 1:
         return head if head[0] & 31 == 31 else bytes([head[0] - count])
     return head[:1] + (int.from_bytes(head[1:], "big") - count).to_bytes(len(head) - 1, "big")
@@ -60,13 +60,13 @@ def note(block, at, whole):
         for _ in range(2 if major == 5 else 1):
             end = note(block, end, whole)
         parts.append((one, end))
-    end += argument is None and major < 6  # its break; another is taken for an item
+    end += argument is None and major < 6  # its break; any other is taken for an item
     whole.append((at, end, behind, [] if is_tag else parts))
     return end
 
 
 def shrunk(judged, judge_all):
-    """The smallest case near it of the same outcome and cause. `judge_all` holds the peer against vectors."""
+    """The smallest case near it with the same outcome and cause. `judge_all` compares the peer with vectors."""
     kind = lambda it: (it.outcome, it.vector.get("cause"))
     name, found = f"{judged.vector['id']} made smaller", judged
     while found:
@@ -82,7 +82,7 @@ def shrunk(judged, judge_all):
 
 
 def smallest(judged, judge_all):
-    """Of each outcome and cause that did not hold the shortest block, made smaller."""
+    """For each outcome and cause that did not hold, the shortest block, shrunk."""
     first = {}
     for it in sorted(judged, key=lambda it: len(block_of(it.vector))):
         if it.outcome not in ("held", "not asked"):

@@ -25,7 +25,7 @@ NONE = "no standard"
 
 
 def places(section):
-    """The standard and the section of each place that is named, as `CARv1, Data; RFC 8949, 3` does; none where no standard says it."""
+    """The standard and the section of each place that is named, as in `CARv1, Data; RFC 8949, 3`; None if no standard says it."""
     if section.startswith(NONE):
         return []
     found = [it.partition(", ") for it in section.split("; ")]
@@ -44,7 +44,7 @@ def rule(told):
 
 
 def worded(causes):
-    """Of causes that have what they are, and the rules that they break."""
+    """For causes, what they are, and the rules that they break."""
     return {name: {"is": words, "by": [rule(it) for it in rules]} for name, (words, *rules) in causes.items()}
 
 

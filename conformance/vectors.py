@@ -1,4 +1,4 @@
-"""The vectors: the bytes of grammar.py with what the judge says of them, as lines of JSON; and those that are made of them."""
+"""The vectors: the bytes of grammar.py with what the judge says of them, as lines of JSON; and the vectors that are made from them."""
 
 import functools
 import hashlib
@@ -77,7 +77,7 @@ FEW_LEVELS = 32
 
 
 def deeply(call):
-    """Calls it where recursion may go 100,000 levels deep."""
+    """Calls it with a limit of recursion of 100,000 levels."""
     answers = []
     sys.setrecursionlimit(1 << 20)
     threading.stack_size(1 << 30)
@@ -96,7 +96,7 @@ def leaves(data):
 
 
 def question(data):
-    """The open question of a sound block, or none."""
+    """The open question about a sound block, or None."""
     if any(map(cidtexts.has_long_varint, links_of(data))):
         return "varints"
     if any(type(it) is int and not -(2**63) <= it < 2**63 for it in leaves(data)):
@@ -106,12 +106,12 @@ def question(data):
 
 FLOAT = 0xFB  # without that byte both profiles say the same
 BOUNDLESS = {"deepest": math.inf, "most_digest": math.inf}
-# Of a cause the open question, and what to ask the judge for the other answer.
+# For a cause, the open question, and what to ask the judge for the other answer.
 ASKED = {"float": ("floats", {"floats": True}), "too deep": ("depth", BOUNDLESS), "no CID": ("digests", BOUNDLESS)}
 
 
 def expected(block):
-    """What the judge says, in the words of a vector: without floats, and with them where that is something else."""
+    """What the judge says, in the words of a vector: without floats, and with them if that differs."""
     said = expected_in(block, False)
     other = expected_in(block, True) if FLOAT in block else said
     return said if said == other else said | {"with_floats": other}
@@ -145,14 +145,14 @@ def refusal(block, refused, floats):
 
 
 def has_text(data):
-    """Whether its DAG-JSON is beyond doubt: no map has the key that is kept for links, and nothing is a float."""
+    """Returns true if its DAG-JSON is beyond doubt: no map has the key that is kept for links, and nothing is a float."""
     if isinstance(data, float) or (isinstance(data, dict) and "/" in data):
         return False
     return all(map(has_text, parts_of(data)))
 
 
 def in_profile(vector, profile):
-    """The vector as a codec of that profile is held to it; where it names none, a float is an open question."""
+    """The vector as it holds for a codec of that profile; if the codec names none, a float is an open question."""
     if profile == "floats" and "with_floats" in vector:
         kept = {key: it for key, it in vector.items() if key not in SAID}
         return kept | vector["with_floats"]
@@ -165,7 +165,7 @@ SAID = ("verdict", "cause", "at", "also", "without_bounds", "level", "kind", "li
 
 
 def packed(block):
-    """`bytes` in hexadecimal; of long ones `repeat`: pairs of hexadecimal and how often."""
+    """`bytes` in hexadecimal; for long ones `repeat`: pairs of hexadecimal and how often."""
     if len(block) <= 600:
         return {"bytes": block.hex()}
     parts = []
@@ -219,7 +219,7 @@ def of_given(given):
     return packed(given.encode()) | {"text": given} if isinstance(given, str) else packed(given)
 
 
-# In each list, map and link of the other groups so many paths are asked for, and one in each that is refused.
+# In each list, map and link of the other groups this many paths are asked for, and one in each that is refused.
 FEW_PATHS = {"paths": ("", "0", "1/0", "a", "a/a"), "segments": ([], [""], ["0"], ["1", "0"], ["a"], ["a", "a"], ["", ""])}
 
 
@@ -233,7 +233,7 @@ def paths_in(vectors, name):
 
 @functools.cache
 def subjects(name):
-    """The vectors of a subject: blocks, with those that are made of them, or what stands around them."""
+    """The vectors of a subject: blocks, with those that are made from them, or what stands around them."""
     if name == "blocks":
         kept = list(load())
         return [*kept, *truncations(kept), *load_short()]
@@ -244,7 +244,7 @@ def subjects(name):
 
 
 def line_of(vector):
-    """The line that asks it."""
+    """The line that asks for it."""
     if vector["group"] == "writing":
         return vector.get("line", vector["dag_json"])
     block = block_of(vector).hex()
@@ -256,14 +256,14 @@ def line_of(vector):
 
 
 def for_writers(vectors, is_loose, cannot):
-    """Those for writers that can be asked: where they are handed over in the loose form those that have one, in the place of the text; and
-    none of what the peer cannot be handed."""
+    """The vectors for writers that can be asked. If the peer takes the loose form, those that have one are handed over in it, in place of
+    the text; and vectors that cannot be handed over are left out."""
     if not is_loose:
         return [it for it in vectors if it.get("cause") not in cannot]
     return [{**it, "line": it["loose"]} for it in vectors if it.get("loose") not in (None, it.get("block"))]
 
 
-# What a peer may be held to, and a line that each answers with `ok`.
+# What can be asked of a peer, and a line for each that a peer answers with `ok`.
 SUBJECTS = {
     "blocks": "f6", "writing": "null", "cid-texts": b"bafkqaaa".hex(), "files": "19a265726f6f747381d82a4500015500006776657273696f6e01",
     "dag-json": b"null".hex(), "to-dag-json": "f6", "paths": "f6 -", "segments": "f6 /", "dag-pb": "0a020801",
@@ -271,7 +271,7 @@ SUBJECTS = {
 
 
 def written():
-    """For writers: data as DAG-JSON, with the keys of maps in other orders, and its one spelling; or what has none."""
+    """For writers: data as DAG-JSON, with the keys of maps in other orders, and its one spelling; or data that has none."""
     for slug, text, why, section in forms.writing():
         said = dagjson.expected(text)
         said.pop("written", None)  # the data counts here, and not how it is told
@@ -307,8 +307,8 @@ def loose(value, is_wide):
 
 
 def short():
-    """All byte strings of at most two bytes, as runs with one verdict: first, last, and the verdict; of refused ones the causes, the
-    first of them before the place, and the others behind it. Of the profile `floats` those with another verdict."""
+    """All byte strings of at most two bytes, as runs with one verdict: first, last, and the verdict; for refused ones the causes, the
+    first of them before the place, and the others after it. For the profile `floats`, those with another verdict."""
     said = {block: both_short(block) for block in all_short()}
     other = {block: with_floats for block, (without, with_floats) in said.items() if with_floats != without}
     return {"runs": runs_of({block: without for block, (without, _) in said.items()}), "with_floats": runs_of(other)}
@@ -323,7 +323,7 @@ def all_short():
 
 
 def runs_of(said):
-    """Of blocks in order, each the next number: pairs of the first and the last with one verdict, and it."""
+    """For blocks in order, each the next number: pairs of the first and the last with one verdict, and the verdict."""
     runs, behind = [], None
     for block, verdict in said.items():
         if (len(block), int.from_bytes(block, "big")) != behind or runs[-1][2:] != list(verdict):
@@ -341,7 +341,7 @@ def expected_short(block, floats):
 
 
 def files(kept):
-    """What stands in the folder, of these vectors: the name of each file, and its text."""
+    """The contents of the folder, for these vectors: the name of each file, and its text."""
     every = [*kept, *made_forms(), *written()]
     assert len({it["id"] for it in every}) == len(every) and all(standards.places(it["section"]) is not None for it in every)
     texts = {f"{group}.jsonl": lines(it for it in every if it["group"] == group) for group in (*grammar.GROUPS, *FORMS, "writing")}
@@ -375,14 +375,14 @@ def load(groups=grammar.GROUPS):
 
 @functools.cache
 def index():
-    """What is told of all vectors: groups, causes and the rules that they break, and more."""
+    """What is said of all vectors: groups, causes and the rules that they break, and more."""
     with open(f"{FOLDER}/index.json", encoding="utf-8") as file:
         return json.load(file)
 
 
 @functools.cache
 def digest():
-    """Which data this is: the first 12 digits of the SHA-256 of its files, one behind another in the order of their names."""
+    """Which data this is: the first 12 digits of the SHA-256 of its files, one after another in the order of their names."""
     found = hashlib.sha256()
     for name in sorted(os.listdir(FOLDER)):
         with open(f"{FOLDER}/{name}", "rb") as file:
@@ -391,7 +391,7 @@ def digest():
 
 
 def load_short():
-    """Those of at most two bytes."""
+    """The blocks of at most two bytes."""
     with open(f"{FOLDER}/short.json", encoding="utf-8") as file:
         kept = json.load(file)
     other = dict(each_of(kept["with_floats"]))
@@ -423,7 +423,7 @@ def every_short():
 
 
 def truncations(vectors, most=100):
-    """Each sound vector of at most so many bytes, cut at each byte: no beginning of a block is one."""
+    """Each sound vector of at most this many bytes, cut at each byte: no beginning of a block is a block."""
     for vector in vectors:
         is_sound = vector["verdict"] == "ok"
         if (is_sound or in_profile(vector, "floats")["verdict"] == "ok") and len(block_of(vector)) <= most:

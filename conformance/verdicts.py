@@ -6,7 +6,7 @@ from dataclasses import dataclass
 import cbor
 from vectors import VARIANTS, block_of, in_profile, line_of
 
-# What may come of a vector, from the best to the worst, and whether it is wrong by RFC 8949 too.
+# What may come of a vector, from the best to the worst, and if it is wrong by RFC 8949 too.
 OUTCOMES = {
     "held": (False, "as the vector wants"),
     "not strict": (False, "took CBOR that DAG-CBOR forbids, repeated keys too"),
@@ -43,18 +43,18 @@ def shortened(text):
 
 
 def is_told(vector, words):
-    """Whether the words are a cause that stands in the vector, by its own name or the proved library's, and perhaps its place."""
+    """Returns true if the words are a cause that stands in the vector, by its own name or the proved library's, and perhaps its place."""
     name, _, place = words.rpartition(" ") if words.rpartition(" ")[2].isdigit() else (words, "", "")
     named = {cause for cause, variant in VARIANTS.items() if name in (cause, variant)}
     stands = lambda cause, at: cause in named and place in ("", str(at))
     if named & {*vector.get("also", ()), *({"too deep"} & {vector["cause"]})}:
-        return True  # the place of a bound is each codec's own
+        return True  # each codec sets the place of a bound itself
     other = vector.get("without_bounds")
     return stands(vector["cause"], vector["at"]) or (other is not None and stands(other["cause"], other["at"]))
 
 
 def outcome(vector, answer, cannot=(), tells=False):
-    """`cannot` has causes that the peer's calls, by design, do not tell; and `links`, where it has no tags. `tells` says that its
+    """`cannot` has causes that the peer's calls, by design, do not tell; and `links`, if it has no tags. `tells` says that its
     refusals name causes."""
     if answer.how == "memory" and vector["group"] == "depth":
         return "held"  # no room for more levels: a refusal
@@ -85,12 +85,12 @@ def held_against(peer, vectors, cannot=(), tells=False, profile=None):
 
 
 def written_block(vector):
-    """The block that a writer is to write; or none, where it is open and not said."""
+    """The block that a writer has to write; or None, if it is open and not said."""
     block = vector.get("block", vector.get("with_floats", {}).get("block"))
     return block and bytes.fromhex(block)
 
 
-# What a peer is to answer behind `ok` of what stands around blocks: words, of which it may leave out the last.
+# What a peer answers after `ok` about what stands around blocks: words, the last of which it may leave out.
 WORDS = {
     "cid-texts": lambda it: [it["cid"], it["written"]],
     "files": lambda it: [",".join(it["roots"]) or "-", ",".join(one["cid"] for one in it["sections"]) or "-"],
@@ -103,12 +103,12 @@ WORDS = {
 
 
 def outcome_of_words(vector, words):
-    """Of what a peer took: the same words, as far as it has some."""
+    """For what a peer took: the same words, as far as it has some."""
     said = vector if vector["verdict"] == "ok" else vector.get("with_floats", vector)
     try:
         wanted = WORDS[vector["group"]](said)
     except KeyError:
-        return "held"  # it is open whether it is taken, and not said how
+        return "held"  # it is open if it is taken, and not said how
     told = words.split()
     return "held" if told == wanted[: len(told)] else "other data"
 

@@ -3,7 +3,7 @@
 
     docs/definitions.py          prints the lists, with their files
     docs/definitions.py page     puts how many they are into docs/PROVED.md
-    docs/definitions.py check    fails where the page has others
+    docs/definitions.py check    fails if the page has other numbers
 
 It begins at the contracts of the calls that a sentence names, and follows each name to its definition in specs/. Names of
 std and of Rust's own types are the toolchain's, and stand in no list."""
@@ -152,7 +152,7 @@ def reach(words, imports, own, found):
             continue
         found[key] = None
         reach(WORD.findall("\n".join(code)), at.imports, (crate, file), found)
-        # Dependencies come first: the key moves behind them.
+        # Dependencies come first: the key moves after them.
         del found[key]
         found[key] = len(chunk)
 
@@ -188,7 +188,7 @@ def rows(keys, found):
 
 
 def lists():
-    """Of each sentence its new definitions, how many lines they have, and how many ghost lines stand beside code, and where."""
+    """For each sentence its new definitions, how many lines they have, and how many ghost lines stand beside code, and where."""
     found = {}
     for sentence, calls in SENTENCES:
         before, ghosts, folders = set(found), 0, {}

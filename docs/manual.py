@@ -1,11 +1,12 @@
 #!/usr/bin/env python3
-"""Man pages, and completions for bash: made of what `--help` of each program writes; and man pages of the C libraries, of their headers.
+"""Man pages, and completions for bash, made from what `--help` of each program writes; and man pages of the C libraries, made from
+their headers.
 
     docs/manual.py page      makes all of them anew
-    docs/manual.py check     fails where one is another than `--help` or the header says, where docs/PROGRAMS.md has not each of the
-                             words in its tables, or where `--version` is not that of CHANGELOG.md
+    docs/manual.py check     fails if one differs from what `--help` or the header says, if a word is missing in the tables of
+                             docs/PROGRAMS.md, or if `--version` is not that of CHANGELOG.md
 
-The texts of `dagcar` and `dagstore` stand in their sources; `dagcbor` answers its two words alone, and has its text here."""
+The texts of `dagcar` and `dagstore` stand in their sources; `dagcbor` has only its two words, and its text is here."""
 
 import pathlib
 import re
@@ -19,29 +20,29 @@ DOES = {"dagcbor": "judge blocks of DAG-CBOR, a line each", "dagcar": "judge, sh
 HEADERS = {"dagcbor": "crates/dagcbor_ffi/include/dagcbor.h", "dagcbor_memory": "crates/dagcbor_memory_ffi/include/dagcbor_memory.h"}
 DECLARES = {"dagcbor": "judge, read and spell blocks of DAG-CBOR, in memory that is lent",
             "dagcbor_memory": "DAG-JSON, and repositories and events of the AT Protocol"}
-# A comment at the start of a line, and what it is said of, up to the next empty line.
+# A comment at the start of a line, and the declarations that it is about, up to the next empty line.
 DECLARED = re.compile(r"^/\* (.*?) \*/\n((?:[^\n]+\n)*)", re.M | re.S)
 DAGCBOR = """usage: dagcbor check|links
 
-Of blocks on standard input, a line each, in hexadecimal:
-  check    the kind of each, or why it is refused
-  links    the links of each
+For each block on standard input, one a line in hexadecimal, it writes:
+  check    its kind, or why it is refused
+  links    its links
 
 For example: printf '1818\\n1817\\n' | dagcbor check
 
-The status is 0 where all input was answered, 1 where input, output or memory failed, 2 for other
+The status is 0 if all input was answered, 1 if input, output or memory failed, 2 for other
 words.
 """
 
 
 def constant(name, which):
-    """The text of a constant of the program."""
+    """Returns the text of a constant of the program."""
     source = (ROOT / SOURCES[name]).read_text(encoding="utf-8")
     return re.search(rf'const {which}: &str = "(.*?)";$', source, re.M | re.S)[1].replace("\\n", "\n")
 
 
 def help_of(name):
-    """What `--help` of the program writes."""
+    """Returns what `--help` of the program writes."""
     return constant(name, "HELP") if name in SOURCES else DAGCBOR
 
 
@@ -129,7 +130,7 @@ def made():
 
 
 def wrong():
-    """What is not as it should be."""
+    """Yields what is not as it should be."""
     for path, text in made():
         if not path.exists() or path.read_text(encoding="utf-8") != text:
             yield f"{path.relative_to(ROOT)} is not what --help or the header says: docs/manual.py page"

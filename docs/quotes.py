@@ -2,12 +2,12 @@
 """The quotations of the pages: contracts and definitions as they stand in the sources.
 
     docs/quotes.py page      puts each quotation into its page anew
-    docs/quotes.py check     fails where a page has another text, or a block of Rust that stands in no source, or README
-                             another logic than that of `rt version`; and where a page, or a line `//!` of a source, names a
+    docs/quotes.py check     fails if a page has another text, or a block of Rust that stands in no source, or README
+                             another logic than that of `rt version`; and if a page, or a line `//!` of a source, names a
                              file or a function that is not there
 
-A quotation follows a line `<!-- quotes FILE NAME.. -->`: of src/ the heads of these functions, with their contracts; of specs/
-these definitions, with their comments; of a schema in schemas/examples these types, with their comments."""
+A quotation follows a line `<!-- quotes FILE NAME.. -->`: from src/ the heads of these functions, with their contracts; from specs/
+these definitions, with their comments; from a schema in schemas/examples these types, with their comments."""
 
 import pathlib
 import re
@@ -30,7 +30,7 @@ MADE = {"lib/music.py", "specs/Echo.antt"}
 
 
 def dedented(lines):
-    """The lines without the room that all of them have in front."""
+    """The lines without the indent that all of them have."""
     room = min((len(line) - len(line.lstrip()) for line in lines if line.strip()), default=0)
     return [line[room:] for line in lines]
 
@@ -63,7 +63,7 @@ def quoted(text):
 
 
 def sources():
-    """The lines of all sources, each without the room in front."""
+    """The lines of all sources, each without its indent."""
     for path in [*(ROOT / "crates").rglob("*"), *(ROOT / "callers").rglob("*")]:
         if path.suffix in (".rt", ".antt", ".rs") and "/out/" not in str(path):
             yield "\n" + "\n".join(line.strip() for line in path.read_text(encoding="utf-8").split("\n")) + "\n"
@@ -80,13 +80,13 @@ def strangers(text, all_sources):
 
 
 def is_there(pointer, names):
-    """Whether a file of the repository has this path, or one that ends so."""
+    """Returns true if a file of the repository has this path, or one that ends so."""
     return any(f"/{name}".endswith(f"/{pointer}") for name in names)
 
 
 def dead_pointers():
     """What a line `//!` of a source names in backquotes and is not there: a file, or a function or another word of snake case
-    that no code has. Of a page, its files."""
+    that no code has. For a page, its files."""
     listed = subprocess.run(["git", "ls-files"], cwd=ROOT, capture_output=True, text=True, check=True).stdout.split("\n")
     names = [name for name in listed if (ROOT / name).is_file()]
     code, heads = set(), []
@@ -111,7 +111,7 @@ def dead_pointers():
 
 
 def other_logic():
-    """The logic that README names, where `rt version` names another."""
+    """Returns the logic that README names, if `rt version` names another."""
     named = re.search(r"logic `(\w+)`", (ROOT / "README.md").read_text(encoding="utf-8"))[1]
     if not shutil.which("rt"):
         return None

@@ -2,8 +2,8 @@
 """Draws docs/pictures/way.svg: the way of a byte through the crates, as docs/DESIGN.md shows it.
 
     docs/way.py          draws it anew
-    docs/way.py check    fails where the picture is another, or names a file that its crate has not, or docs/DESIGN.md one that
-                         nothing has; or where crates/README.md lists other crates than crates.txt, or one below what it stands on"""
+    docs/way.py check    fails if the picture differs, or names a file that its crate does not have, or docs/DESIGN.md one that is
+                         not there; or if crates/README.md lists other crates than crates.txt, or one below what it stands on"""
 
 import pathlib
 import re
@@ -109,7 +109,7 @@ def drawn():
 
 
 def strangers():
-    """The files that a room names and its crate has not."""
+    """The files that a room names and its crate does not have."""
     for *_, files, crate in ROOMS:
         for name in re.findall(r"\w+(?:\.rt|/)", files):
             if not (ROOT / "crates" / crate / "src" / name).exists():
@@ -117,7 +117,7 @@ def strangers():
 
 
 def lost_files():
-    """The sources that the page names and nobody has."""
+    """The sources that the page names and that are not there."""
     tops = ("crates", "callers", "conformance", "faults", "bench", "docs", "schemas")
     there = {path.name for top in tops for path in (ROOT / top).rglob("*.*")}
     for name in re.findall(r"`[\w/]*?(\w+\.(?:rt|antt|c|h|py|rs|go))`", PAGE.read_text(encoding="utf-8")):
@@ -134,7 +134,7 @@ def floors_of(page):
 
 
 def misplaced():
-    """The crates that the page of the crates and crates.txt do not list alike, or that stand below what they stand on."""
+    """The crates that crates/README.md and crates.txt do not list alike, or that stand below what they stand on."""
     lines = re.findall(r"^(\w+).*?:(.*)$", (ROOT / "crates.txt").read_text(encoding="utf-8"), re.MULTILINE)
     listed = list(floors_of((ROOT / "crates" / "README.md").read_text(encoding="utf-8")))
     floors, below = dict(listed), {name: words.split() for name, words in lines}

@@ -1,9 +1,9 @@
-"""Blocks, their names, and files of them, as bytes: how they are written, and how the front of what is left is read."""
+"""Blocks, their names, and CAR files of them, as bytes: how they are written, and how the front of what is left is read."""
 
 import base64
 import hashlib
 
-# What begins a file of version 2.
+# The beginning of a file of version 2.
 PRAGMA = b"\x0a\xa1\x67version\x02"
 # The names of codecs (multicodec table).
 CODECS = {0x55: "raw", 0x70: "dag-pb", 0x71: "dag-cbor", 0x72: "libp2p-key", 0x0129: "dag-json", 0x0200: "json"}
@@ -52,7 +52,7 @@ def counted(body):
 
 
 def header(*roots):
-    """The block that begins a file of these roots."""
+    """The block at the beginning of a file with these roots."""
     return b"\xa2\x65roots" + head(4, len(roots)) + b"".join(map(link, roots)) + b"\x67version\x01"
 
 
@@ -66,13 +66,13 @@ def file_of(roots, blocks):
 
 
 def wrapped(file, padding=b"", after=b"", begin=None, size=None, index=0, characteristics=bytes(range(16))):
-    """The file in one of version 2."""
+    """The file within one of version 2."""
     fields = (51 + len(padding) if begin is None else begin, len(file) if size is None else size, index)
     return PRAGMA + characteristics + b"".join(it.to_bytes(8, "little") for it in fields) + padding + file + after
 
 
 def text_of(name):
-    """A CID as the programs print it: base32, and of version 0 base58btc."""
+    """A CID as the programs print it: base32, or base58btc for version 0."""
     if name[:1] != b"\x12":
         return "b" + base64.b32encode(name).decode().rstrip("=").lower()
     number, text = int.from_bytes(name, "big"), ""
@@ -83,7 +83,7 @@ def text_of(name):
 
 
 def missing_line(name):
-    """The line of a name that leads nowhere, with its codec."""
+    """The line for a name that leads nowhere, with its codec."""
     codec = parts_of(name)[0]
     return f"missing {text_of(name)} {CODECS.get(codec, f'codec {codec:#x}')}"
 
@@ -96,7 +96,7 @@ def lines_of(lines):
 
 
 def varint_at(bytes_, at):
-    """A varint in shortest form, below 2^64, and the place after it. None has more than ten bytes."""
+    """A varint in shortest form, below 2^64, and the place after it. A varint has at most ten bytes."""
     number, shift = 0, 0
     while True:
         if at >= len(bytes_):
@@ -119,7 +119,7 @@ def counted_at(bytes_, at):
 
 
 def parts_of(body):
-    """Of the name at the front of what is in a section its codec, hash code and digest, and the place after it."""
+    """The codec, hash code and digest of the name at the front of what a section holds, and the place after the name."""
     if body[:2] == b"\x12\x20":
         if len(body) < 34:
             raise Refusal("InvalidCid")
@@ -138,8 +138,8 @@ def parts_of(body):
 
 
 def sections_of(file, at=None):
-    """Of each section after the header, or from this place on, the name and the block; and why there are no more, if bytes are
-    left."""
+    """The name and the block of each section after the header, or from this place on; and if bytes are left, why there are no
+    more sections."""
     sections = []
     try:
         if at is None:

@@ -12,7 +12,7 @@ from car_bytes import (CODECS, PRAGMA, Refusal, cid, counted, counted_at, header
                        text_of, varint, wrapped)
 
 NUMBERS = b"\x83\x01\x02\x03"
-AWAY = cid(b"\x61a")  # names a block that no file here has
+AWAY = cid(b"\x61a")  # the name of a block that no file here has
 ROOT = b"\xa2\x61a" + link(AWAY) + b"\x61b" + link(cid(NUMBERS))
 UNORDERED = b"\xa2\x61b\x01\x61a\x02"
 
@@ -24,15 +24,15 @@ BLOCKS = {
     b"\x05": ("ok integer", []),
     b"": ("refused Eof", []),
 }
-# By which byte those are refused that are.
+# The byte at which each block that is refused is refused.
 PLACES = {UNORDERED: 5, b"": 0}
 # The roots of each header.
 HEADERS = {header(): [], header(cid(ROOT)): [cid(ROOT)], header(AWAY, cid(ROOT)): [AWAY, cid(ROOT)]}
-# Why other headers are none.
+# Why other headers are not headers.
 NO_HEADERS = {b"": "NoBlock", header()[:-1] + b"\x02": "OtherHeader", header()[:-1]: "NoBlock", NUMBERS: "OtherHeader"}
 
 
-# Blocks that stand there where a byte of what begins a file of version 2 is another.
+# Blocks that stand there if a byte at the beginning of a file of version 2 is changed.
 NO_HEADERS |= {
     PRAGMA[1:]: "OtherHeader",
     PRAGMA[1:10]: "NoBlock",
@@ -46,12 +46,12 @@ NO_HEADERS |= {
 
 
 def is_well(found):
-    """Whether a verdict tells of nothing wrong."""
+    """Returns true if a verdict tells that nothing is wrong."""
     return found in ("not read", "links not read") or found.startswith("ok ")
 
 
 def links_of(codec, block):
-    """Where the links of a block lead that is one of its codec."""
+    """Returns where the links of a block lead, for a block of its codec."""
     return dagpb.judged(block)[1] if codec == 0x70 else BLOCKS[block][1]
 
 
@@ -73,7 +73,7 @@ class Judge:
 
     @staticmethod
     def file_in(bytes_):
-        """What is there of the file of version 1, and whether some of it is not."""
+        """What is there of the file of version 1, and if some of it is missing."""
         if bytes_[:11] != PRAGMA:
             return bytes_, False
         if len(bytes_) < 51:
@@ -122,7 +122,7 @@ class Judge:
         return 1, b"", lines_of([line])
 
     def got(self, name):
-        """The status, the output and what is told of the block of one name."""
+        """The status, the output and the messages for the block of one name."""
         for other, block, found in self.sections:
             if other == name and found not in ("other bytes", "not verified"):
                 return 0, block, b""
@@ -146,7 +146,7 @@ class Judge:
             if name not in stored:
                 lost.append(name)
                 continue
-            # What the links of a block are must be known, or nothing is written.
+            # If it is not known what the links of a block are, nothing is written.
             if said[name] == "links not read" or said[name].startswith("refused "):
                 return self.told(f"{text_of(name)} {said[name]}")
             out += section(stored[name], name=name)
@@ -159,7 +159,7 @@ class Judge:
         """The same of `check` or `list`."""
         if command == "list":
             return int(bool(self.refusal)), lines_of(self.listed + self.refusal), b""
-        # The order of CIDs: these here are all of version 1, of one codec and by one hash function.
+        # The order of CIDs: all CIDs here are of version 1, of one codec and by one hash function.
         missing = [] if self.refusal else sorted(self.linked - self.held)
         lines = self.checked + self.refusal + [missing_line(it) for it in missing]
         return int(not self.is_well or bool(missing or self.refusal)), lines_of(lines), lines_of(self.places)
@@ -177,7 +177,7 @@ class Judge:
         return int(not self.is_well or bool(missing)), lines_of(lines), b""
 
     def facts(self):
-        """What `inspect` tells of a whole file."""
+        """What `inspect` says of a whole file."""
         is_second = self.given[:11] == PRAGMA
         rows = {"codecs": {}, "hashes": {}}
         for name, block, _ in self.sections:
@@ -218,7 +218,7 @@ class Judge:
 
 
 def questions(file):
-    """What is asked of a file, and what is right."""
+    """What is asked about a file, and the right answers."""
     judge = Judge(file)
     yield ["check"], file, judge.wanted("check")
     yield ["list"], file, judge.wanted("list")
@@ -236,7 +236,7 @@ TAILS = (b"", b"\x01", section(NUMBERS))
 
 
 def files():
-    """What each kind of file is, and the files."""
+    """The name of each kind of file, and the files."""
     yield "each front of a small file", [SMALL[:end] for end in range(len(SMALL) + 1)]
     long = [varint(it) + tail for it in LENGTHS for tail in TAILS]
     yield "lengths of 2^63 and more", [front + it for front in (b"", counted(header()), SMALL) for it in long]
@@ -258,14 +258,14 @@ def files():
 
 
 def damaged(file):
-    """The file with each byte of its header of version 2 another one, in some ways; but none begins inside a block."""
+    """The file with each byte of its header of version 2 changed, in some ways; but no file begins inside a block."""
     for at in range(51):
         for byte in {0x00, 0x01, file[at] ^ 1} | ({0x7F, 0x80, 0xFF, file[at] ^ 0x80} if at != 27 else set()):
             yield file[:at] + bytes([byte]) + file[at + 1 :]
 
 
 def files_of_version_2():
-    """What each kind of file of version 2 is, and the files."""
+    """The name of each kind of file of version 2, and the files."""
     small = wrapped(SMALL, b"\x00" * 5, section(UNORDERED), index=51 + 5 + len(SMALL))
     yield "version 2, each front", [small[:end] for end in range(len(small) + 1)]
     yield "version 2, each byte of the fields", [it for it in damaged(small) if it[:11] == PRAGMA]
@@ -281,7 +281,7 @@ def files_of_version_2():
 
 
 def sweep_files(path, report):
-    """Each file is judged as it must be, with little room."""
+    """Each file is judged as it must be, in little memory."""
     for name, given in files():
         rows = (row for file in given for row in questions(file))
         running.sweep(report, f"dagcar, {name}", path, rows, preexec_fn=running.short_of_memory)
@@ -294,7 +294,7 @@ BLOCKS_AND_TEXTS = {
     "show": (NUMBERS_IN_A_MAP, (0, TEXT + b"\n")),
     "make": (TEXT, (0, NUMBERS_IN_A_MAP)),
 }
-# A file of a list of a link that stands there twice, and of a raw leaf: what `get`, `tree`, `at` and `prove` give of it.
+# A file of a list with a link that stands there twice, and of a raw leaf: what `get`, `tree`, `at` and `prove` give for it.
 TWICE = b"\x83" + link(cid(NUMBERS)) + link(cid(b"raw", codec=0x55)) + link(cid(NUMBERS))
 TREE = [section(TWICE), section(NUMBERS), section(b"raw", codec=0x55)]
 OUT_OF_ORDER = counted(header()) + b"".join(reversed(TREE)) + section(UNORDERED) + section(NUMBERS)
@@ -310,7 +310,7 @@ MANY = 100_000
 
 
 def texts():
-    """What each kind of text is, and the texts with the cause that is named, or none where a block is made."""
+    """The name of each kind of text, and the texts with the cause that is named, or None if a block is made."""
     yield "each front of a text", [(TEXT[:end], b"NoJson") for end in range(len(TEXT))] + [(TEXT, None)]
     deep = [b"[" * MANY, b'{"a":' * MANY, b"[" * MANY + b"]" * MANY, b'[{"a":' * MANY]
     yield "texts that nest", [(it, b"TooDeep") for it in deep]
@@ -339,14 +339,14 @@ def made_or_refused(cause):
 
 
 def sweep_texts(path, report):
-    """Each text is made a block, or refused for its cause, with little room."""
+    """Each text is made into a block, or refused for its cause, in little memory."""
     for name, given in texts():
         rows = ((["make"], text, made_or_refused(cause)) for text, cause in given)
         running.sweep(report, f"dagcar make, {name}", path, rows, preexec_fn=running.short_of_memory)
 
 
 def chain(count, block_over):
-    """So many blocks, each over the name of the next one, and the numbers."""
+    """This many blocks, each over the name of the next one, and the numbers."""
     blocks = [NUMBERS]
     for _ in range(count):
         blocks.append(block_over(cid(blocks[-1])))
@@ -354,7 +354,7 @@ def chain(count, block_over):
 
 
 def paths():
-    """What each kind of path is, the blocks, the path from the first of them, how many it passes, and what `at` says."""
+    """The name of each kind of path, the blocks, the path from the first of them, how many it passes, and what `at` says."""
     maps, links = chain(3_000, lambda name: b"\xa1\x61n" + link(name)), chain(3_000, link)
     nothing = lambda block, left: (1, b"", f"{text_of(cid(block))} has nothing at {left}\n".encode())
     yield "over 3,000 maps", maps, "n/" * 3_000 + "1", 3_001, (0, b"2\n", b"")
@@ -386,5 +386,5 @@ def sweep(path, report):
 
 
 def wanted_of_small():
-    """What each command answers of the small file."""
+    """What each command answers for the small file."""
     return {command: Judge(SMALL).wanted(command)[:2] for command in ("check", "list")}

@@ -1,4 +1,4 @@
-"""What `dagcar event` says of frames, held to a judge in Python (conformance/events.py): streams, and random events, good and
+"""Compares what `dagcar event` says of frames with a judge in Python (conformance/events.py): streams, and random events, good and
 faulty."""
 
 import collections
@@ -7,10 +7,10 @@ import random
 import events
 import running
 
-# How many random events there are, each good, and faulty in each way.
+# How many random events there are: each is there without a fault, and faulty in each way.
 RANDOM_EVENTS = 60
 
-# What is told, by the judge's word.
+# What the program says, by the judge's word.
 TOLD = {
     "big": "the event does not tell all: tooBig",
     "rebase": "the event tells of a rebase",
@@ -32,7 +32,7 @@ def rows_of_streams(folder):
 
 
 def is_told(line, verdict):
-    """Whether the line tells what the judge says."""
+    """Returns true if the line says what the judge says."""
     word = verdict.split()[0]
     if word in ("missing", "commit"):
         return line.startswith("missing ") and line.endswith(" dag-cbor")
@@ -42,7 +42,7 @@ def is_told(line, verdict):
 
 
 def random_events(path, folder, count):
-    """All frames of so many random events, in one stream; how many are answered wrongly, by what is so of them."""
+    """All frames of this many random events, in one stream; and how many are answered wrongly, by what is so of them."""
     rng = random.Random(20261130)
     rows = [row for number in range(count) for row in events.events_of(rng, f"did:plc:{number}")]
     file = running.put(f"{folder}/random.frames", b"".join(frame for _, frame in rows))
@@ -65,7 +65,7 @@ def random_events(path, folder, count):
 
 
 def small():
-    """A stream of three frames, and what is said of it."""
+    """A stream of three frames, and what the program says of it."""
     for what, stream, said, told in events.streams_of(1):
         if what == "a chain":
             assert not told

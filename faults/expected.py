@@ -1,4 +1,4 @@
-"""What each run of `faults/runs` must answer with nothing refused, and what where a place was refused.
+"""What each run of `faults/runs` must answer with nothing refused, and what if a place was refused.
 
 Blocks and values are those of the format's examples; no answer is copied from a run."""
 
@@ -45,7 +45,7 @@ EACH_KIND = (
 
 
 class Plain:
-    """One answer; where a place was refused, this refusal and no other."""
+    """One answer; if a place was refused, this refusal and no other."""
 
     def __init__(self, answer, refusal=OUT_OF_MEMORY):
         self.answer, self.refusal = answer, refusal
@@ -57,7 +57,7 @@ class Plain:
 class Held:
     """What the call answered, and what a device holds by then.
 
-    `before_end`: what can have gone out where memory was refused; None: any beginning of the whole.
+    `before_end`: what can have been written if memory was refused; None: any beginning of the whole.
     `each_byte`: a device that takes one byte a call holds just those that it took before the one that failed."""
 
     def __init__(self, answer, whole, refusal=OUT_OF_MEMORY, before_end=None, each_byte=False):
@@ -91,7 +91,7 @@ class Left:
 
 
 class Stream:
-    """The items in their order; where one was refused, those before it, that refusal, and nothing more."""
+    """The items in their order; if one was refused, those before it, that refusal, and nothing more."""
 
     def __init__(self, *items, refusal=OUT_OF_MEMORY):
         self.items = [f"Some({it})" for it in items]
@@ -110,7 +110,7 @@ class Stream:
 
 
 class OneOf:
-    """One answer; where a place was refused, one of these."""
+    """One answer; if a place was refused, one of these."""
 
     def __init__(self, answer, *refusals):
         self.answer, self.refusals = answer, refusals
@@ -120,7 +120,7 @@ class OneOf:
 
 
 class Copied:
-    """A copy is equal, and the tree is as it was either way."""
+    """A copy is equal, and the tree is as it was in either case."""
 
     def is_right(self, reached, n, said):
         return said == ("(Err(AllocError), true)" if reached else "(Ok(true), true)")
@@ -210,7 +210,7 @@ RUNS |= {
     "write that takes no byte": Held("Ok(())", MIXED, "Err(Write(Kind(WriteZero)))", each_byte=True),
 }
 
-# Each call alone: over a slice, over a source, over a source that fails, behind which the Deserializer has failed.
+# Each call alone: over a slice, over a source, over a source that fails, after which the Deserializer has failed.
 CALLS = "any ignored_any links str identifier string char bytes byte_buf option newtype_struct".split()
 CALLS = [f"deserialize_{it}" for it in CALLS] + ["next_element", "next_key and next_value"]
 CALLS += ["unit_variant", "newtype_variant", "tuple_variant", "struct_variant"]
@@ -219,7 +219,7 @@ for name in CALLS:
     RUNS[f"failing {name}"] = Plain("(Ok(true), Ok(()))", f"({READ}, Err(Failed))")
 RUNS["pull_payload, slice"] = RUNS["pull_payload, source"] = Plain("Ok(true)")
 
-# Lists and maps part by part: what is gathered does not go out before its end. Heads that say a known number do.
+# Lists and maps part by part: what is gathered is not written before its end. Heads that say a known number are.
 LONG = b"a text that is longer than a short vector".hex()
 ENTRY = "a1636b657901"
 REFUSED = {

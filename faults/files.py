@@ -1,5 +1,5 @@
 """The word `cat` of `dagcar` over files of IPFS: those that Debian's `ipfs-unixfs` makes, and random ones, some of them damaged.
-What is wanted of a random one is what `unixfs.cat` finds, which reads it by itself."""
+For a random file, `unixfs.cat`, which reads it by itself, finds the right answer."""
 
 import hashlib
 import json
@@ -21,7 +21,7 @@ NAMES = ["a", "b.txt", "with space", "ünïcode", "sub/h", "sub/deep/er/x", "sub
 
 
 def cat(root, names, blocks, *wanted):
-    """A run of `cat` over a file of the blocks, and what is right."""
+    """A run of `cat` over a file of the blocks, and the right answer."""
     return ["cat", f"{text_of(root)}/{names}"], file_of([root], blocks), *wanted
 
 
@@ -39,7 +39,7 @@ def listed(blocks, root):
 
 
 def maker(folder):
-    """The program that makes blocks, or none."""
+    """The program that makes blocks, or None."""
     if not os.path.exists(f"{folder}/maker"):
         shutil.copytree(f"{HERE}/unixfs_maker", f"{folder}/maker")
     programs = building.cargo_built(f"{folder}/maker", "ipfs-unixfs-0.2.0")
@@ -59,7 +59,7 @@ def refused(line):
 
 
 def cut_before(name, content):
-    """The whole content, or the front of it and that a block is missing."""
+    """The whole content, or the front of it and the line that a block is missing."""
     missing = f"missing {text_of(name)} dag-pb\n".encode()
     return lambda status, out, told: status == 1 and content.startswith(out) and told == missing
 
@@ -103,7 +103,7 @@ def rows_of_named(program, namer, folder):
 
 
 def sweep_named(path, folder, report):
-    """The names that the program `ipfs_cid` gives files, beside those of the blocks that are read out."""
+    """The names that the program `ipfs_cid` gives to files, beside those of the blocks that are read."""
     program, namer = maker(folder), shutil.which("ipfs_cid")
     if program is None or namer is None:
         report("dagcar cat of files that ipfs_cid names, which is not here", 0, [])
@@ -127,7 +127,7 @@ def samples():
 
 
 def rows_of_samples(blocks):
-    """Each is listed and read out, and the directories of shards are refused by name."""
+    """Each is listed and read, and the directories of shards are refused by name."""
     for name, block in blocks.items():
         yield cat(name, "", blocks, (0, b"foobar\n", b"") if text_of(name) in FOOBAR else wanted(blocks, name))
         words, is_well = unixfs.entity(blocks, name)
@@ -161,7 +161,7 @@ def leaf(rng):
 
 
 def node(rng, blocks, depth):
-    """Makes a part of a file of so many levels at most, and answers its name and size."""
+    """Makes a part of a file of at most this many levels, and returns its name and size."""
     if depth == 0 or rng.random() < 0.3:
         name, block, size = leaf(rng)
         blocks[name] = block
@@ -211,7 +211,7 @@ def random_files(count):
 
 
 def field(rng):
-    """A field of a message, or something near to one."""
+    """A field of a message, or something close to one."""
     number = rng.choice([0, 1, 2, 5, 127, 128, 300, 2**32, 2**63, 2**64 - 1])
     known = [0x08, 0x12, 0x18, 0x20, 0x20, 0x28, 0x30, 0x38, 0x3A, 0x39, 0x3D, 2**32 - 8]
     tag = rng.choice(known) if rng.random() < 0.9 else rng.choice([0x22, 0x0B, 0x0A, 0x10, 2**32 + 2])
@@ -243,7 +243,7 @@ def random_node(rng):
 
 
 def directory(rng, blocks, count):
-    """Makes a directory of so many random nodes, and answers its name."""
+    """Makes a directory of this many random nodes, and returns its name."""
     links = []
     for _ in range(count):
         block = random_node(rng)
@@ -265,7 +265,7 @@ def directories(turns, count):
 
 
 def chain(count):
-    """A leaf below so many nodes less one, of which each has one link."""
+    """A leaf below one node less than this number. Each of these has one link."""
     content = b"deep"
     name, blocks = unixfs.leaf_name(content), {}
     blocks[name] = content
@@ -288,7 +288,7 @@ def chains():
 
 
 def is_sound(block, name):
-    """Whether a store takes it under this name."""
+    """Returns true if a store takes it under this name."""
     try:
         return hashlib.sha256(block).digest() == name[-32:] and (unixfs.codec_of(name) != 0x70 or bool(dagpb.read(block)))
     except dagpb.Refused:
@@ -296,7 +296,7 @@ def is_sound(block, name):
 
 
 def sweep_stored(report, name, path, folder, rows):
-    """Each row is a word, a root, blocks, and the answer that is right over a new store of these."""
+    """Each row is a word, a root, blocks, and the right answer over a new store of these blocks."""
     wrong, count = [], 0
     for word, root, blocks, right in rows:
         store = f"{folder}/files.db"

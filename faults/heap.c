@@ -1,5 +1,5 @@
-// The heap of the runs (faults/runs), in the place of the toolchain's, and the word by which their devices fail.
-// A run asks for the fault by one of the calls at the end; `stop_refusing` says whether it came.
+// The heap of the runs (faults/runs), in place of the toolchain's, and the call by which their devices fail.
+// A run asks for the fault by one of the calls at the end; `stop_refusing` says if it came.
 #include <stdlib.h>
 
 static unsigned long wanted_allocation, wanted_call; // which one is refused; 0: none
@@ -15,7 +15,7 @@ static int refuses(void) {
     return 0;
 }
 
-// What the toolchain's compiled code calls: whether there is room, and where.
+// What the toolchain's compiled code calls: these say if there is room, and where.
 struct room {
     unsigned long is_there;
     void *at;

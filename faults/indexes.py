@@ -36,7 +36,7 @@ def order(entry):
 
 
 def buckets(entries):
-    """Entries of each width, the least first, behind their count."""
+    """Entries of each width, the least first, after their count."""
     widths = sorted({len(digest) + 8 for _, digest, _ in entries})
     out = little(len(widths), 4)
     for width in widths:
@@ -73,7 +73,7 @@ SOUGHT, BLOCK = SECTIONS[17]
 
 
 def piped(path, words, file):
-    """What is said of the same bytes on standard input, where nothing is read at places."""
+    """What the program says of the same bytes on standard input, which it cannot read at places."""
     return running.answer([path, *words], file, preexec_fn=running.short_of_memory)
 
 
@@ -82,7 +82,7 @@ def get(name):
 
 
 def files_to_index():
-    """Files, and what `index` writes of each."""
+    """Files, and what `index` writes for each."""
     shown = [(DATA, ENTRIES), data_of([]), data_of(SECTIONS[:1]), data_of(SECTIONS[:5] * 3)]
     shown += [data_of([(SECTIONS[1][0], b"other bytes"), SECTIONS[1], SECTIONS[0]])]
     for data, entries in shown:
@@ -96,7 +96,7 @@ def files_to_index():
 
 
 def blocks_by_index():
-    """Blocks that an index leads to, where a scan would find none."""
+    """Blocks that an index leads to, and that a scan would not find."""
     first, entries = data_of(SECTIONS)
     place = entries[17][2]
     size = len(counted(SOUGHT + BLOCK))
@@ -110,7 +110,7 @@ def blocks_by_index():
 
 
 def blocks_past_index():
-    """Blocks that a file has, and to which its index does not lead; and names that it has not."""
+    """Blocks that a file has, and to which its index does not lead; and names that the file does not have."""
     wanted = 0, BLOCK, NO_ENTRY
     for make in (by_multihash, by_width):
         yield get(SOUGHT), version_2(DATA, make(ENTRIES[:17] + ENTRIES[18:])), wanted
@@ -130,7 +130,7 @@ def blocks_past_index():
 
 
 def hostile_indexes():
-    """Indexes of counts, widths and lengths that nothing stands behind."""
+    """Indexes with counts, widths and lengths that no bytes follow."""
     wanted = 0, BLOCK, NO_ENTRY
     counts = (0, 1, 2, (1 << 31) - 1, 1 << 31, (1 << 32) - 1)
     lengths = (0, 1, 39, 40, 1 << 32, (1 << 63) - 1, 1 << 63, (1 << 64) - 1)
@@ -150,7 +150,7 @@ def hostile_indexes():
 
 
 def repeated_sections():
-    """Sections of one name, of which not each has the bytes that the name says."""
+    """Sections of one name, some of which do not have the bytes that the name says."""
     name, block = SECTIONS[5]
     rows = [[(name, b"other"), (name, block)], [(name, block), (name, b"other")], [(name, block)] * 3]
     rows += [[(b"\x01\x71" + name[2:], block), (name, block)]]
@@ -169,14 +169,14 @@ INLINE = b"\x01\x71\x00" + counted(b"\xa1aa" + link(cid(MIDDLE)))
 
 
 def asks(root=WAY[0][0]):
-    """Words that ask of a path which leads to an item, and of one which leads to none."""
+    """Words that ask for a path that leads to an item, and for one that leads nowhere."""
     for path in ("a/0/x", "a/0", "a/0/y", "a/1", ""):
         text = f"{text_of(root)}/{path}"
         yield from (["at", text], ["at", "--raw", text], ["prove", text])
 
 
 def paths_by_index(path):
-    """Paths over blocks to which an index leads, where a scan would read no file."""
+    """Paths over blocks to which an index leads, in files that a scan could not read."""
     data, entries = data_of(SECTIONS[:9] + WAY + SECTIONS[9:])
     way = [entry for entry in entries if entry[2] in [entries[number][2] for number in (9, 10, 11)]]
     first, last = way[0][2], entries[12][2]
@@ -193,13 +193,13 @@ def paths_by_index(path):
 
 
 def past(wanted):
-    """What is told where the index does not lead to a block on the way: if there is what is asked, a line more."""
+    """What the program says if the index does not lead to a block on the way: if what is asked is there, a line more."""
     status, out, told = wanted
     return status, out, told + (b"" if status else NO_WAY_ENTRY)
 
 
 def paths_past_index(path):
-    """Paths over blocks of which an index lists not all, or none, or wrong; and files that have not all."""
+    """Paths over blocks some or all of which an index does not list, or lists wrongly; and files without some of the blocks."""
     data, entries = data_of(SECTIONS[:9] + WAY + SECTIONS[9:])
     cut, left = data_of(SECTIONS[:9] + WAY[:1] + WAY[2:] + SECTIONS[9:])
     for words in asks():
@@ -218,7 +218,7 @@ def paths_past_index(path):
 
 
 def wrong_blocks_on_the_way(path):
-    """Sections of other bytes under a name on the way, to which an index leads first, or alone."""
+    """Sections of other bytes under a name on the way, to which an index leads first, or to which alone it leads."""
     wrong = (WAY[1][0], b"\x81\x07")
     data, entries = data_of([WAY[0], wrong, WAY[1], WAY[2]])
     for words in asks():
@@ -231,7 +231,7 @@ def wrong_blocks_on_the_way(path):
 
 
 class Fault(Exception):
-    """Why bytes are no index."""
+    """Why bytes are not an index."""
 
 
 class Pieces:
@@ -268,7 +268,7 @@ def read_widths(pieces, code):
 
 
 def read_index(given):
-    """Whether the format tells hash codes, and the entries (CARv2 specification, "Index")."""
+    """Returns if the format tells hash codes, and the entries (CARv2 specification, "Index")."""
     pieces = Pieces(given)
     kind = pieces.take(2)
     if kind == b"\x80\x08":
@@ -297,7 +297,7 @@ def listed(index):
 
 
 def found(sections, index):
-    """The findings of an index of these sections, and how many entries it has."""
+    """The findings on an index of these sections, and how many entries it has."""
     has_codes, entries = read_index(index)
     _data, places = data_of(sections)
     begin = len(_data) - sum(len(counted(name + block)) for name, block in sections)
@@ -326,7 +326,7 @@ def judged(sections, index):
 
 
 def spoiled(entries):
-    """Entries in which one thing is wrong, and such in which nothing is."""
+    """Entries with one thing wrong, and entries with nothing wrong."""
     yield entries
     for at, (code, digest, place) in enumerate(entries):
         others = entries[:at], entries[at + 1 :]
@@ -350,7 +350,7 @@ def in_order_given(entries):
 
 
 def indexes_to_judge():
-    """Sections, and an index of them: right ones, and each thing that can be wrong."""
+    """Sections, and indexes of them: right ones, and one with each thing that can be wrong."""
     name, block = SECTIONS[5]
     files = [SECTIONS[:6] + SECTIONS[40:], [], SECTIONS[:1], SECTIONS[40:41]]
     files += [SECTIONS[:3] + [(name, block)] * 3, [(b"\x01\x71" + name[2:], block), (name, block), (name, b"other")]]
@@ -378,7 +378,7 @@ def indexes_to_judge():
 
 
 def random_indexes():
-    """Indexes of which one to three bytes are others."""
+    """Indexes with one to three bytes changed."""
     chance = random.Random(20240229)
     sections = SECTIONS[:5] + SECTIONS[40:]
     _, entries = data_of(sections)
@@ -391,7 +391,7 @@ def random_indexes():
 
 
 def rows_of_judged(path, given):
-    """The words, a file, and what is to be said of it."""
+    """The words, a file, and the right answer."""
     for sections, index in given:
         data, _ = data_of(sections)
         file = version_2(data, index)
@@ -405,7 +405,7 @@ def rows_of_judged(path, given):
 
 
 def files_without_an_index():
-    """Files with no index, and bytes that are no file."""
+    """Files without an index, and bytes that are not a file."""
     none = 1, b"", b"refused NoIndex\n"
     for file in (DATA, version_2(DATA, b"", place=0), b"", b"\x00", DATA[:-1]):
         yield ["list", "--index"], file, none

@@ -3,7 +3,7 @@
 //   KILL_AT=n      before the nth of these calls; KILL_HALF=1: a write moves half of its bytes first
 //   KILL_LOSE=n    as when the power fails: of what was written and cut since the last sync of a file, each sector and each cut is lost
 //                  or not, by a draw with the seed n
-//   CALLS=file     where the number of these calls goes at the end, and that of the first write to standard output
+//   CALLS=file     the file for the number of these calls, and for that of the first write to standard output
 #define _GNU_SOURCE
 #include <dlfcn.h>
 #include <fcntl.h>
@@ -16,7 +16,7 @@
 
 enum { SECTOR = 512 };
 
-// A write or a cut that no sync followed yet: where, how long the file was and is then, and the bytes from there on before and after.
+// A write or a cut that no sync followed yet: its place, the file's length before and after it, and the bytes from there on before and after.
 struct change {
     struct change *before;
     int file, is_cut;
@@ -62,7 +62,7 @@ static unsigned char *part(int file, off_t from, off_t to, size_t *size) {
     return bytes;
 }
 
-// Takes down what is there before the bytes from there to there are others.
+// Keeps the bytes from there to there before they change.
 static struct change *noted(int file, off_t from, off_t to) {
     if (!number("KILL_LOSE"))
         return NULL;
@@ -81,7 +81,7 @@ static void done(struct change *it, off_t to) {
     it->bytes = part(it->file, it->at, to < it->length ? to : it->length, &it->size);
 }
 
-// What was written to the file lasts.
+// What was written to the file is now safe.
 static void synced(int file) {
     for (struct change **at = &last; *at;) {
         struct change *it = *at;
@@ -125,7 +125,7 @@ static void lose(void) {
     again_in_order(last);
 }
 
-// Whether the process ends at this call.
+// Returns true if the process ends at this call.
 static int is_last(void) { return ++calls == number("KILL_AT"); }
 
 static void end(void) {

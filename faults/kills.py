@@ -1,8 +1,8 @@
 """`dagstore` killed within an open, and within an import: at moments by the clock, spread over the time that the call takes here; and
-at calls to the system that make, write, cut or sync a file (kills.c), so that of an open no state that its files go through is left
-out. As when the power fails, what no sync followed is then lost, or some of it.
+at calls to the system that make, write, cut or sync a file (kills.c), so that an open is killed in each state that its files pass
+through. As when the power fails, what no sync followed is then lost, or some of it.
 
-Behind each kill SQLite reads a copy of the files; then `dagstore check` opens them, and lists them. Both must have what was said to be
+After each kill SQLite reads a copy of the files; then `dagstore check` opens them, and lists them. Both must have what was said to be
 stored, and of the rest all or nothing."""
 
 import hashlib
@@ -21,7 +21,7 @@ from store import block_of, car_of, run, tables_of, text_of
 ROOT = os.path.dirname(os.path.dirname(os.path.realpath(__file__)))
 ENDS = ("", "-wal")
 NOTHING, DAMAGED = ({}, []), ({b"": b"no database that is whole"}, [])
-# What an open without a log does at its end leaves of the log: its header.
+# What an open without a log leaves of the log at its end: its header.
 LOG_HEADER = 41
 
 
@@ -45,14 +45,14 @@ class Files:
 
 
 class Call:
-    """A call of the program on files: what it has on its standard input, what it says, and what is committed then."""
+    """A call of the program on files: what it gets on standard input, what it says, and what is committed then."""
 
     def __init__(self, files, words, given, said, after):
         self.files, self.words, self.given, self.said, self.after = files, words, given, said, after
 
 
 class Killer:
-    """Kills a call, and finds what was wrong then. It counts the kills before the call said that it was done, and those behind."""
+    """Kills a call, and finds what was wrong then. It counts the kills before the call said that it was done, and those after."""
 
     def __init__(self, program, library, folder):
         self.program, self.library = program, library
@@ -68,7 +68,7 @@ class Killer:
         return subprocess.Popen(self.words(call), **how)
 
     def lasting(self, call, count=5):
-        """The seconds until the process begins, and those until it has said what it says, of calls that nothing kills."""
+        """The seconds until the process begins, and those until it has said what it says, for calls that nothing kills."""
         begun, said = [], []
         for _ in range(count):
             before = time.monotonic()
@@ -84,7 +84,7 @@ class Killer:
         return statistics.median(begun), statistics.median(said)
 
     def calls(self, call):
-        """How many calls to the system it makes of those that kills.c knows, and which of them first says something."""
+        """How many of the calls to the system that kills.c knows it makes, and which of them first says something."""
         process = self.started(call, LD_PRELOAD=self.library, CALLS=self.counts)
         assert process.communicate(call.given)[0] == call.said, call.files.name
         with open(self.counts, encoding="ascii") as file:
@@ -134,7 +134,7 @@ class Killer:
         try:
             return tables_of(self.path)
         except sqlite3.DatabaseError:
-            # A file whose making was cut off is no database yet, and the next open goes on with it.
+            # A file whose making was cut off is not a database yet, and the next open goes on with it.
             return NOTHING
         except AssertionError:
             return DAMAGED
@@ -184,7 +184,7 @@ def states(killer, draw, at):
 
 
 def opens(killer, draw, files, count):
-    """Opens of each of the files: so many moments, spread over all; and at each call, or 100 of them, before it and amid it."""
+    """Opens of each of the files, killed at this many moments, spread over all; and at each call, or 100 of them, before it and amid it."""
     done, tried = frame(b"ok"), count
     calls = [Call(it, ["serve"], b"rollback\n", done, it.kept) for it in files]
     for call in calls:
@@ -201,7 +201,7 @@ def opens(killer, draw, files, count):
 
 
 def imports(killer, draw, files, count):
-    """Imports into each of the files: so many moments, and as many calls."""
+    """Imports into each of the files, killed at this many moments, and as many calls."""
     blocks = dict(block_of(draw) for _ in range(1000))
     roots = draw.sample(list(blocks), 2)
     said = "".join(f"root {text_of(it)}\n" for it in roots) + f"stored {len(blocks)}\n"
@@ -219,7 +219,7 @@ def imports(killer, draw, files, count):
 
 
 def powers(killer, draw, files, count):
-    """The power fails: so many calls in opens and imports, also behind what they say, and then what no sync followed is lost, or some
+    """The power fails at this many calls in opens and imports, also after what they say. Then what no sync followed is lost, or some
     of it."""
     blocks = dict(block_of(draw) for _ in range(300))
     share = count // (2 * len(files))
@@ -263,7 +263,7 @@ def large(killer, draw, whole, count, blocks=160_000):
 
 
 def check(report, program, compiler, count=200, seed=1):
-    """One line for each kind of run."""
+    """Prints a line for each kind of run."""
     with tempfile.TemporaryDirectory() as at:
         killer, draw = Killer(program, library(compiler, at), at), random.Random(seed)
         files = states(killer, draw, at)

@@ -1,11 +1,11 @@
 // Preloaded (LD_PRELOAD) under the proved program: refuses its nth allocation, or fails or shortens its nth read or write.
-// The environment says which; what is left out is never refused.
+// The environment says which; what it does not name is never refused.
 //
 //   REFUSE_ALLOCATION=n   the nth allocation finds no memory; REFUSE_FROM=n: each from the nth on
 //   FAIL_READ=n           the nth read fails with the number ERRNO
-//   FAIL_WRITE=n          the nth write, but for those to standard error; ERRNO=0: it takes no byte
+//   FAIL_WRITE=n          the nth write fails, not counting those to standard error; ERRNO=0: it takes no byte
 //   SHORT_READ=n          the nth read of several bytes moves one; SHORT_WRITE=n; SHORT_ALL=1: each of both
-//   COUNTS=file           where the numbers of allocations, reads and writes go at the end
+//   COUNTS=file           the file for the numbers of allocations, reads and writes at the end
 #define _GNU_SOURCE
 #include <dlfcn.h>
 #include <errno.h>

@@ -10,7 +10,7 @@ from running import put
 
 FOO = LINK.removeprefix("d82a582500")
 
-# Each line of input, what `check` answers, and what `links` does where that is another answer.
+# Each line of input, what `check` answers, and what `links` does if that is another answer.
 ROWS = [
     ("83010203", "ok list", "none"),
     ("1817", "refused NonMinimal", None),
@@ -62,7 +62,7 @@ class Sweep:
         """Status, standard output and standard error; and how many allocations, reads and writes there were."""
         faults = {name: str(value) for name, value in faults.items()}
         env = {**os.environ, **faults, "LD_PRELOAD": self.library, "COUNTS": self.counts}
-        # From a file, since it gives each read its bytes whole: a pipe's reads are as many as its two ends' turns.
+        # From a file, because it gives each read its bytes whole: a pipe's reads depend on the turns of its two ends.
         with open(self.input, "rb") as file:
             how = {"stdin": file, "capture_output": True, "env": env, "timeout": 60}
             ran = subprocess.run([self.program, *words], **how)
@@ -71,13 +71,13 @@ class Sweep:
         return (ran.returncode, ran.stdout, ran.stderr), (allocations, reads, writes)
 
     def refused(self, command, fault, count, said, **more):
-        """Each place: the status, the line on standard error, and of the output whole lines, no fewer for a later place."""
+        """For each place: the status, the line on standard error, and whole lines of output, no fewer for a later place."""
         wanted, lines_before, wrong = self.wanted[command][1], 0, []
         for n in range(1, count + 1):
             (status, out, err), _ = self.run(command.split(), **{fault: n}, **more)
             lines = out.count(b"\n")
             is_right = status == self.fault_status and err == said and wanted.startswith(out) and lines >= lines_before
-            # A failed write leaves at most a beginning of its line; nothing else leaves any.
+            # A failed write leaves at most the beginning of its line; nothing else does.
             if not is_right or (fault != "FAIL_WRITE" and out and not out.endswith(b"\n")):
                 wrong.append((n, status, out[-60:], err))
             lines_before = lines
@@ -114,14 +114,14 @@ class Sweep:
         self.short(command, "SHORT_WRITE", writes)
 
     def sweep_one(self, command):
-        """A command that reads all of its input before it answers. A call that is interrupted is read again."""
+        """A command that reads all of its input before it answers. A call that is interrupted is made again."""
         self.sweep_command(command, (EIO,), (EIO, ENOSPC, EPIPE, 0))
 
     def sweep(self, usage, *words):
-        """Each command; and these words, which are no command."""
+        """Each command; and these words, which are not commands."""
         for command in self.wanted:
             self.sweep_command(command, (EIO, EINTR, EAGAIN), (EIO, EINTR, ENOSPC, EPIPE, 0))
-        # The last two are no text.
+        # The last two are not texts.
         words = ([], *words, [b"\xff"], [b"check\xff"])
         usage = (2, b"", f"usage: {self.name} {usage}\n".encode())
         wrong = [(it, found) for it in words for found in [self.run(it)[0]] if found != usage]

@@ -14,7 +14,7 @@ from signed_trees import (MOST_KEY, Node, Pool, Row, commit, fields, file_of, ke
 
 RANDOM_TREES = 2_000
 
-# The name of a record, and the root of the tree of these keys, each of that record: from the tests of the reference
+# The name of a record, and the root of the tree of these keys, each with that record: from the tests of the reference
 # implementation.
 VALUE = "bafyreie5cvv4h45feadgeuwhbcutmh6t2ceseocckahdoe6uat64zmz454"
 ROOTS = {
@@ -26,11 +26,11 @@ ROOTS = {
 }
 
 
-# ---- damages: each answers a file, and what must be told
+# -- damages: each returns a file, and what must be told
 
 
 def some(rng, pool, wanted=lambda tree: True):
-    """A tree, and its records, that is as wanted."""
+    """A tree, and its records, that has the property."""
     while True:
         records = pool.take(rng)
         tree = tree_of(records)
@@ -43,7 +43,7 @@ def over(tree, **changed):
 
 
 def pick(rng, pool, wanted):
-    """A tree, and a node of it that is as wanted."""
+    """A tree, and a node of it that has the property."""
     tree, _ = some(rng, pool, lambda it: any(map(wanted, it.all())))
     return tree, rng.choice([node for node in tree.all() if wanted(node)])
 
@@ -73,7 +73,7 @@ def long_prefix(rng, pool):
 
 
 def lower_key(rng, pool):
-    """A key of a lower layer in a node, where it would stand below."""
+    """A key of a lower layer in a node, although its place is below."""
     tree, node = pick(rng, pool, lambda it: it.rows and layer(it.rows[-1].key + b"\x00") < layer(it.rows[-1].key) < 40)
     row = node.rows[-1]
     row.after = None
@@ -178,7 +178,7 @@ def other_version(rng, pool):
 
 
 def missing_field(rng, pool):
-    """Of version 3, or of version 2 without what came later."""
+    """A commit of version 3, or of version 2 without what came later."""
     tree, _ = some(rng, pool)
     return over(tree, **rng.choice(({"prev": None}, {"rev": None}, {"rev": None, "version": b"\x02"}))), "missing"
 
@@ -210,7 +210,7 @@ DAMAGES = (node_missing, short_prefix, long_prefix, lower_key, empty_subtree, em
            listed_twice, node_twice, empty_key, long_key, no_node, no_commit, other_version, other_fields, missing_field, no_root,
            later_root, commit_missing)
 
-# What a line says of a damage.
+# What a line says about a damage.
 WORDS = {
     "canonical": "the nodes are not those of the tree of their entries",
     "front": "an entry shares more bytes with the key before it than that has",
@@ -227,7 +227,7 @@ WORDS = {
 
 
 def reference():
-    """Whether this reading gives the roots of the reference implementation."""
+    """Returns true if this reading gives the roots of the reference implementation."""
     value = base64.b32decode(VALUE[1:].upper() + "=" * (-len(VALUE[1:]) % 8))
     for keys, root in ROOTS.items():
         tree = tree_of({f"com.example.record/{key}".encode(): value for key in keys})
@@ -281,7 +281,7 @@ def differing(folder, rng, pool, count):
 
 
 def differing_damaged(path, folder, rng, pool, count):
-    """One of the two files damaged, or both: of the old one is told what `records` tells of it, else of the new one."""
+    """One of the two files damaged, or both: for the old one the program says what `records` says, and else that of the new one."""
     for number in range(count):
         bad, wanted = DAMAGES[number % len(DAMAGES)](rng, pool)
         sound = over(tree_of(pool.take(rng)))
@@ -297,7 +297,7 @@ def pick_other(rng, pool):
 
 
 def not_told(folder):
-    """Words and files that are none, of which the status is 2."""
+    """Words that are wrong, and files that are not there: the status is 2."""
     file = over(tree_of({b"a/b": record(b"1")}))
     away, here = f"{folder}/away.car", running.put(f"{folder}/here.car", file)
     usage = [], [here], ["-", "-"], [here, here, here]
@@ -309,7 +309,7 @@ def not_told(folder):
 
 
 def is_told(wanted):
-    """Whether a line says what is wrong, and nothing else is written."""
+    """Returns true if a line says what is wrong, and nothing else is written."""
     words = WORDS.get(wanted, wanted).encode()
     return lambda status, out, told: status == 1 and not out and words in told and told.count(b"\n") == 1
 
@@ -321,7 +321,7 @@ def damaged(rng, pool, count):
 
 
 def word_of(rng, key):
-    """The key as lines have it; or itself, where it is the text of no key. A word of a program is text, without a zero byte."""
+    """The key as lines have it; or itself, if it is not the text of a key. A word of a program is text, without a zero byte."""
     try:
         raw = b"\x00" not in key and key_text(key).encode() != key and bool(key.decode())
     except UnicodeDecodeError:
@@ -332,7 +332,7 @@ def word_of(rng, key):
 
 
 def raw_record():
-    """Of a record whose name says another codec the bytes are not shown, also where they are DAG-CBOR."""
+    """If the name of a record says another codec, its bytes are not shown, even if they are DAG-CBOR."""
     data = spelled(2, b"raw")
     for codec, word in ((0x55, "raw"), (0x70, "dag-pb"), (0x0129, "dag-json"), (0x300, "codec 0x300")):
         name = cid(data, codec)
@@ -352,7 +352,7 @@ def way_to(tree, key):
 
 
 def said_of(block, tree):
-    """What `commit` says of a commit of the reference."""
+    """What `commit` says about a commit of the reference."""
     name, data = text_of(named(block)), text_of(tree.name())
     return f"commit {name}\ndid did:plc:abc\nrev 3jzfcijpj2z2a\ndata {data}\nprev none\n".encode()
 
@@ -362,7 +362,7 @@ def text_of_bytes(data):
 
 
 def json_of(records, blocks):
-    """What `records --json` says: of the records of these blocks, in DAG-JSON, and of those that lack theirs."""
+    """What `records --json` says: for the records of these blocks, in DAG-JSON, and for those whose block is missing."""
     data = {named(block): text for block, text in blocks}
     rows = [(key_text(key), name, data.get(name)) for key, name in sorted(records.items())]
     lines = [f'{{"cid":{{"/":"{text_of(name)}"}},"key":{json.dumps(key)},"value":{text}}}\n' for key, name, text in rows if text]
@@ -371,7 +371,7 @@ def json_of(records, blocks):
 
 
 def of_one_record(rng, key, records, proof, data):
-    """What is asked of one record of the file, and what is right: its block is that of the data, or there is none."""
+    """What is asked about one record of the file, and the right answer: its block is that of the data, or there is none."""
     word = word_of(rng, key)
     if key not in records:
         yield ["record-proof", word], (0, proof, b"")
@@ -403,7 +403,7 @@ def one_record(rng, pool, count):
 
 
 def small(folder):
-    """A file of three records, and what is said of it, and of it and another one."""
+    """A file of three records, and what the program says of it, and of it and another one."""
     note, link_to, raw = fields((b"text", spelled(3, b"hi"))), spelled(2, b"away"), spelled(2, b"b")
     key = b"app.bsky.feed.post/self"
     records = {key: named(note), b"app.bsky.feed.like/1": named(link_to), b"a": named(raw)}
@@ -423,7 +423,7 @@ def small(folder):
 
 
 def sweep(path, folder, report, count=RANDOM_TREES):
-    """Everything, of the program that is built there. Files lie in the folder."""
+    """All runs of the program that is built there. Files lie in the folder."""
     rng = random.Random(20261127)
     pool = Pool(rng)
     report("repositories, roots of the reference", len(ROOTS), list(reference()))

@@ -1,4 +1,4 @@
-"""Runs of a program: what it answers, how it is held short of memory or disk, how it is killed, and how rows of runs are
+"""Runs of a program: what it answers, how it is kept short of memory or disk, how it is killed, and how rows of runs are
 judged."""
 
 import os
@@ -13,19 +13,19 @@ NOBODY = 65534
 
 
 def answer(words, given=b"", timeout=300, **how):
-    """The status, the output and what is told."""
+    """Returns the status, the output and the messages."""
     how = {"stdout": subprocess.PIPE, "stderr": subprocess.PIPE} | how
     ran = subprocess.run(words, input=given, timeout=timeout, check=False, **how)
     return ran.returncode, ran.stdout, ran.stderr
 
 
 def short_of_memory():
-    """Room for the program, and for nothing that is taken from a length."""
+    """Gives the program room for itself, and for nothing that is reserved from a length."""
     resource.setrlimit(resource.RLIMIT_AS, (1 << 28, 1 << 28))
 
 
 def short_of_disk(size):
-    """So many bytes for each file that is written."""
+    """Limits each file that is written to this many bytes."""
     def limit():
         signal.signal(signal.SIGXFSZ, signal.SIG_IGN)
         resource.setrlimit(resource.RLIMIT_FSIZE, (size, size))
@@ -34,14 +34,14 @@ def short_of_disk(size):
 
 
 def as_nobody():
-    """Who may write no file of another."""
+    """Makes the process one that may not write another user's file."""
     if os.getuid() == 0:
         os.setgid(NOBODY)
         os.setuid(NOBODY)
 
 
 def killed(words, seconds, given=b"", **how):
-    """What it said until then, and its status, if it is killed after so many seconds."""
+    """Returns what it said until then, and its status, if it is killed after this many seconds."""
     process = subprocess.Popen(words, stdin=subprocess.PIPE, stdout=subprocess.PIPE, stderr=subprocess.DEVNULL, **how)
     try:
         said = process.communicate(given, timeout=seconds)[0]
@@ -55,7 +55,7 @@ def killed(words, seconds, given=b"", **how):
 
 
 def put(path, data):
-    """Writes the file, and answers its path."""
+    """Writes the file, and returns its path."""
     with open(path, "wb") as file:
         file.write(data)
     return path
@@ -77,12 +77,12 @@ def remove_store(path):
 
 
 def is_right(found, wanted):
-    """Whether an answer is one of those that are wanted, of which each may be a call that judges it."""
+    """Returns true if an answer is one of those that are wanted. Each of these may be a call that judges the answer."""
     return any(it(*found) if callable(it) else it == found for it in wanted)
 
 
 def sweep(report, name, program, rows, folder=None, wrong=(), **how):
-    """Runs the program for each row: words, bytes, and the answers that are right. The bytes are on standard input; or, if a
+    """Runs the program for each row: words, bytes, and the right answers. The bytes are on standard input; or, if a
     folder is named, in a file there, whose path is the last word."""
     wrong, count = list(wrong), 0
     for words, given, *wanted in rows:

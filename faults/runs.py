@@ -7,7 +7,7 @@ USES = ["serde_ipld_dagcbor", "dagcbor_blocks", "ipld_links", "files_car", "type
 
 
 def judge(lines, report):
-    """Each run is judged by what `expected.py` wants of it; and each name that it lists was run to its end."""
+    """Each run is judged by what `expected.py` wants for it; and each name that `expected.py` lists was run to its end."""
     counts, wrong, ended = dict.fromkeys(RUNS, 0), {}, set()
     for line in lines:
         name, n, reached, said = line.split("\t", 3)

@@ -1,5 +1,5 @@
-"""The program `dagcar`, proved and built: files of the sections of others, of random files, and of what is left of them where
-they are cut or a byte of them is another; and several files as one.
+"""The program `dagcar`, proved and built: files of the sections of others, of random files, and of what is left of them if
+they are cut or a byte of them is changed; and several files as one.
 
 What is wanted is found here by a reader of its own of the format (CARv1 specification); none is copied from a run."""
 
@@ -23,7 +23,7 @@ def body_of(sections):
 
 
 def filtered(roots, file, at, given, keeps, sought=()):
-    """What `filter` writes and tells of a file of these roots, whose header ends at this place."""
+    """What `filter` writes and says for a file of these roots, whose header ends at this place."""
     sections, fault = sections_of(file, at)
     kept = [(name, block) for name, block in sections if keeps(name)]
     out = counted(header(*(given or filter(keeps, roots)))) + body_of(kept)
@@ -55,7 +55,7 @@ def random_file(rng):
 
 
 def damaged(rng, file, at):
-    """The file, the file cut, and with a byte that is another, behind its header."""
+    """The file, the file cut, and the file with a changed byte after its header."""
     yield file
     if len(file) > at:
         yield file[: rng.randrange(at, len(file))]
@@ -105,13 +105,13 @@ def by_names(rng, folder):
 
 
 def is_right(name, block):
-    """Whether the block is the one that the name says, by SHA-256 or inline."""
+    """Returns true if the block is the one that the name says, by SHA-256 or inline."""
     _, code, digest, _ = parts_of(name)
     return digest == (hashlib.sha256(block).digest() if code == 0x12 else block if code == 0 else None)
 
 
 def merged(files, given):
-    """What `merge` writes and tells of files, each of its roots, its bytes and the end of its header."""
+    """What `merge` writes and says for files, each given by its roots, its bytes and the end of its header."""
     roots, held, kept = given or dict.fromkeys(root for its, _, _ in files for root in its), set(), []
     for number, (_, file, at) in enumerate(files, 1):
         sections, fault = sections_of(file, at)
@@ -125,7 +125,7 @@ def merged(files, given):
 
 
 def merges(folder, rng, count):
-    """Of two to four files, some of them twice, some damaged."""
+    """Two to four files, some of them twice, some damaged."""
     for _ in range(count):
         files = [random_file(rng) for _ in range(rng.randrange(2, 5))]
         if len(files) > 2:
@@ -159,7 +159,7 @@ def names_of(parts):
 
 
 def run_split(path, folder, words, before, given=b"", **how):
-    """What a split in a folder of these files alone answers, and which files are there then."""
+    """What a split answers in a folder with these files alone, and which files are there then."""
     for name in os.listdir(folder):
         os.remove(f"{folder}/{name}")
     for name, held in before.items():
@@ -169,7 +169,7 @@ def run_split(path, folder, words, before, given=b"", **how):
 
 
 def wanted_split(parts, before, fault):
-    """What a split answers whose parts are these, of a file with this fault, where these files were there."""
+    """What a split answers whose parts are these, for a file with this fault, if these files were there."""
     made, lines = dict(before), []
     for name, part in zip(names_of(parts), parts):
         if name in before:
@@ -180,7 +180,7 @@ def wanted_split(parts, before, fault):
 
 
 def wrong_splits(path, folder, rng, count):
-    """How many splits of files, some damaged, into new files there were, and those whose answer is another than that which is
+    """The number of splits of files, some damaged, into new files, and those that did not answer as
     wanted."""
     found_wrong, runs = [], 0
     for _ in range(count):
@@ -203,7 +203,7 @@ def wrong_splits(path, folder, rng, count):
 
 
 def wrong_devices(path, folder):
-    """Splits from standard input, of no file, to a full device, and beside files that cannot be made."""
+    """Splits from standard input, of a file that is not there, to a full device, and beside files that cannot be made."""
     first, one, two = counted(header(cid(b"a", 0x55))), section(b"a", 0x55), section(bytes(120), 0x55)
     file, failed, other = first + one + two, b"dagcar: output failed\n", {"part-1.car": b"of another"}
     both, split = b"part-0.car\npart-1.car\n", {"part-0.car": first + one, "part-1.car": first + two}
@@ -227,7 +227,7 @@ def wrong_devices(path, folder):
 
 
 def headers():
-    """What begins no file, and a file of version 2."""
+    """Bytes that do not begin a file, and a file of version 2."""
     words, first = ["filter", "--codec", "raw"], counted(header(cid(b"a", 0x55)))
     file = first + section(b"a", 0x55) + section(b"\x01")
     for end in range(len(first)):

@@ -22,12 +22,12 @@ def frame(word, body=b""):
 
 
 def asked(word, block):
-    """A request of a block of the codec raw."""
+    """A request for a block of the codec raw."""
     return b"%s raw %d\n%s" % (word, len(block), block)
 
 
 def answers_of(said):
-    """The answers that stand whole in what was said: a word, and its bytes."""
+    """The whole answers in what was said: for each a word, and its bytes."""
     found, at = [], 0
     while True:
         end = said.find(b"\n", at)
@@ -42,7 +42,7 @@ def answers_of(said):
 
 
 def stream_of(draw, count):
-    """Requests, and what the store holds and has as roots behind each: what is committed and what waits."""
+    """Requests, and what the store holds and has as roots after each: what is committed and what waits."""
     requests, states, now, kept = [], [], ({}, []), ({}, [])
     for _ in range(count):
         name, block = named(0x55, draw.randbytes(draw.choice([1, 40, 1000, 20000])))
@@ -56,7 +56,7 @@ def stream_of(draw, count):
             request, answer = f"remove {text_of(name)}\n".encode(), frame(b"ok" if name in rows else b"none")
             rows.pop(name, None)
         elif sort == "add-root":
-            # One that is a root stays where it is.
+            # A root that is added again stays where it is.
             roots += [name] if name not in roots else []
             request, answer = f"add-root {text_of(name)}\n".encode(), frame(b"ok")
         else:
@@ -70,7 +70,7 @@ def stream_of(draw, count):
 
 
 def paced(program, path, draw):
-    """The seconds that a request takes here, of a stream that nothing kills."""
+    """The seconds that a request takes here, in a stream that nothing kills."""
     requests = stream_of(draw, 300)[0]
     before = time.monotonic()
     subprocess.run([program, path, "serve"], input=b"".join(requests), stdout=subprocess.DEVNULL, check=True)
@@ -78,7 +78,7 @@ def paced(program, path, draw):
 
 
 def crash(program, path, count, seed):
-    """Kills it at a random moment of a stream, so often; answers what was wrong."""
+    """Kills it at a random moment of a stream, this many times; returns what was wrong."""
     draw, wrong, killed = random.Random(seed), [], 0
     pace = paced(program, path, draw)
     for n in range(count):
@@ -106,7 +106,7 @@ def crash(program, path, count, seed):
         try:
             found = tables_of(path) if os.path.exists(path) else ({}, [])
         except sqlite3.DatabaseError:
-            # A file whose making was cut off is no database yet, and the next open goes on with it.
+            # A file whose making was cut off is not a database yet, and the next open goes on with it.
             found = ({}, [])
         kept = states[len(told) - 1][0] if told else ({}, [])
         after = states[len(told)][0] if len(told) < len(states) else kept
@@ -119,8 +119,8 @@ def crash(program, path, count, seed):
 
 
 def cuts(program, path, draw):
-    """The same requests in one piece, byte by byte and in random pieces have the same answers; and cut at each byte, those that are
-    whole are answered, and then it is told."""
+    """The same requests in one piece, byte by byte and in random pieces have the same answers. If they are cut at each byte, those
+    that are whole are answered, and then the program says so."""
     wrong = []
     requests, states = stream_of(draw, 30)
     given, wanted = b"".join(requests), b"".join(it for _, it in states)
@@ -164,7 +164,7 @@ NO_REQUESTS = [
 
 
 def bad(program, path):
-    """What is no request is told, and ends it; nothing is reserved from a length that is announced."""
+    """What is not a request is told, and ends the program; nothing is reserved from a length that is announced."""
     wrong = []
     for line in NO_REQUESTS:
         ran = run(program, path, "serve", given=b"add raw 1\nz" + line + b"commit\n")
@@ -224,7 +224,7 @@ def limits(program, path, draw):
 
 
 def check(report, program, count=100, seed=1):
-    """One line for each kind of run."""
+    """Prints a line for each kind of run."""
     with tempfile.TemporaryDirectory() as at:
         os.chmod(at, 0o777)
         wrong, killed = crash(program, f"{at}/a.db", count, seed)

@@ -14,7 +14,7 @@ MOST_KEY = 1024
 
 
 def fields(*pairs):
-    """A map of these, whose keys are in their order."""
+    """A map of these entries, whose keys are in their order."""
     return head(5, len(pairs)) + b"".join(spelled(3, key) + value for key, value in pairs)
 
 
@@ -26,12 +26,12 @@ def linked(name):
 
 
 def layer(key):
-    """The zero bits in front of its SHA-256, two to a layer."""
+    """The number of zero bits at the front of its SHA-256; two make a layer."""
     return (256 - int.from_bytes(hashlib.sha256(key).digest(), "big").bit_length()) // 2
 
 
 class Row:
-    """An entry: how many bytes it shares with the key before it, its key, its record and the node behind."""
+    """An entry: how many bytes it shares with the key before it, its key, its record and the node after it."""
 
     def __init__(self, shared, key, value, after):
         self.shared, self.key, self.value, self.after = shared, key, value, after
@@ -69,7 +69,7 @@ def shared_front(one, other):
 
 
 def node_of(entries, level):
-    """The node over these, of keys of this layer at most; none over none."""
+    """The node over these, with keys of this layer at most; None if there are none."""
     if not entries:
         return None
     tops = [at for at, (key, _) in enumerate(entries) if layer(key) == level]
@@ -101,7 +101,7 @@ FIELDS = {
 
 
 def commit(root, **changed):
-    """The block of a commit over the tree of this name, with fields changed, or left out where they are None."""
+    """The block of a commit over the tree of this name, with fields changed, or left out if they are None."""
     all_fields = {**FIELDS, b"data": link(root), **{key.encode(): value for key, value in changed.items()}}
     kept = [(key, value) for key, value in all_fields.items() if value is not None]
     return fields(*sorted(kept, key=lambda pair: (len(pair[0]), pair[0])))
@@ -114,7 +114,7 @@ def file_of(block, nodes, *roots):
 
 
 def key_text(key):
-    """As a line has it: bytes that are no graphic ASCII, and the sign itself, by a percent sign and two digits."""
+    """As a line has it: bytes that are not graphic ASCII, and the percent sign itself, by a percent sign and two digits."""
     return "".join(chr(it) if 0x21 <= it <= 0x7E and it != 0x25 else f"%{it:02X}" for it in key)
 
 
@@ -132,7 +132,7 @@ class Pool:
             self.layers.setdefault(layer(key), []).append(key)
 
     def take(self, rng):
-        """Some records: of many layers, of one, or of few that are apart."""
+        """Some records: of many layers, of one, or of a few that are far apart."""
         count = rng.choice((0, 1, 2, 3, 8, 30, 100, 300)) if rng.random() < 0.9 else 1000
         of = sorted(self.layers) if rng.random() < 0.5 else rng.sample(sorted(self.layers), min(3, len(self.layers)))
         keys = [rng.choice(self.layers[rng.choice(of)]) for _ in range(count)]

@@ -45,7 +45,7 @@ def head_of(major, n):
 
 
 def links_of(names):
-    """A list of links."""
+    """A block that is a list of links."""
     return head_of(0x80, len(names)) + b"".join(b"\xd8\x2a\x58\x25\x00" + name for name in names)
 
 
@@ -55,7 +55,7 @@ def car_of(blocks, roots=()):
 
 
 def tables_of(path):
-    """The blocks, and the roots in their order, that SQLite reads in a copy of the files, which it finds whole."""
+    """The blocks, and the roots in their order, which SQLite reads in a copy of the files; it finds them whole."""
     with tempfile.TemporaryDirectory() as at:
         for end in ("", "-wal"):
             if os.path.exists(path + end):
@@ -78,7 +78,7 @@ def run(program, path, *words, given=b"", **how):
 
 
 def crash(program, path, count, seed):
-    """Kills an import at a random moment, so often; answers what was wrong."""
+    """Kills an import at a random moment, this many times; returns what was wrong."""
     draw, kept, wrong, killed = random.Random(seed), {}, [], 0
     begun = time.monotonic()
     blocks = dict(block_of(draw) for _ in range(1000))
@@ -104,7 +104,7 @@ def crash(program, path, count, seed):
         try:
             rows = rows_of(path) if os.path.exists(path) else {}
         except sqlite3.DatabaseError:
-            # A file whose making was cut off is no database yet, and the next open goes on with it.
+            # A file whose making was cut off is not a database yet, and the next open goes on with it.
             rows = {} if not kept else None
         if said == b"stored %d\n" % len(blocks) and rows != both:
             wrong.append(f"{n}: said to be stored, and is not")
@@ -112,7 +112,7 @@ def crash(program, path, count, seed):
             wrong.append(f"{n}: {rows and len(rows)} rows, and {len(kept)} or {len(both)} were committed")
             rows = kept
         kept = rows
-        # A file that is not there is none, and no word but `import` makes one.
+        # If a file is not there, no word but `import` makes it.
         wanted = b"holds %d\n" % len(kept) if os.path.exists(path) else b""
         own = run(program, path, "count")
         if own.stdout != wanted:
@@ -121,8 +121,8 @@ def crash(program, path, count, seed):
 
 
 def collect(program, path, count, seed, is_stored=False):
-    """Kills a `gc` at a random moment, so often; answers what was wrong. Each round adds a tree and blocks that it does not lead to.
-    The tree's root is given, or stored."""
+    """Kills a `gc` at a random moment, this many times; returns what was wrong. Each round adds a tree and blocks to which it does
+    not lead. The tree's root is given, or stored."""
     draw, wrong, killed, longest = random.Random(seed), [], 0, 0.05
     for n in range(count):
         leaves = dict(block_of(draw) for _ in range(draw.choice([1, 30, 300])))
@@ -158,7 +158,7 @@ def collect(program, path, count, seed, is_stored=False):
 
 
 def add_roots(program, path, count, seed):
-    """Kills an `add-root` at a random moment, so often; answers what was wrong. Its names are roots behind the others, or none is."""
+    """Kills an `add-root` at a random moment, this many times; returns what was wrong. Its names are roots after the others, or none is."""
     draw, wrong, killed, longest = random.Random(seed), [], 0, 0.05
     blocks = dict(block_of(draw) for _ in range(50))
     run(program, path, "import", given=car_of(blocks))
@@ -278,7 +278,7 @@ EARLIER = b"dagstore: the file is of an earlier version, which keeps no roots: e
 
 
 def roots(program, at, draw):
-    """What `roots`, `add-root`, `drop-root`, and `export` and `gc` without words say of the roots of a store."""
+    """What `roots`, `add-root`, `drop-root`, and `export` and `gc` without words say about the roots of a store."""
     wrong, path = [], f"{at}/roots.db"
 
     def expect(what, ran, status, said, told=b""):
@@ -301,7 +301,7 @@ def roots(program, at, draw):
     expect("export of that", run(program, f"{at}/roots2.db", "export"), 0, exported.stdout)
     expect("export of given roots", run(program, path, "export", text_of(second[0])), 0, car_of(ordered, [second[0]]))
 
-    # Each is a root behind the others, in the order of the words; one that is a root stays where it is.
+    # Each is a root after the others, in the order of the words; one that is a root already stays where it is.
     expect("add-root", run(program, path, "add-root", text_of(lost), text_of(first[0]), text_of(second[0]), text_of(lost)), 0, b"")
     names += [lost, second[0]]
     if tables_of(path) != (blocks, names):
@@ -312,7 +312,7 @@ def roots(program, at, draw):
     names = [third[0], second[0]]
     expect("roots behind drop-root", run(program, path, "roots"), 0, lines_of(names))
 
-    # A name that is given twice counts once; those that are no roots are told in the order of the words.
+    # A name that is given twice counts once; those that are not roots are told in the order of the words.
     twice = run(program, path, "drop-root", text_of(lost), text_of(third[0]), text_of(first[0]), text_of(third[0]), text_of(lost))
     told = f"{text_of(lost)} no root\n{text_of(first[0])} no root\n".encode()
     expect("drop-root of none", twice, 1, b"removed 1\n", told)
@@ -324,7 +324,7 @@ def roots(program, at, draw):
     if tables_of(path) != (blocks, names):
         wrong.append("the roots behind drop-root")
 
-    # What each of the stored roots leads to is kept, and nothing else; with no root nothing is taken out.
+    # Everything that the stored roots lead to is kept, and nothing else; with no root nothing is taken out.
     expect("gc of stored roots", run(program, path, "gc"), 0, b"removed 11\n")
     kept = {n: b for n, b in blocks.items() if n != first[0] and n not in list(leaves)[:10]}
     if tables_of(path) != (kept, names):
@@ -365,7 +365,7 @@ def roots(program, at, draw):
 
 
 def paths(program, at, draw):
-    """What `at` says of a path over the blocks of a store."""
+    """What `at` says about a path over the blocks of a store."""
     wrong, path = [], f"{at}/paths.db"
 
     def expect(what, words, status, said, told=b""):
@@ -401,7 +401,7 @@ def paths(program, at, draw):
 
 
 def contents(program, at, draw):
-    """What `cat` and `ls` write of the files of IPFS in a store."""
+    """What `cat` and `ls` write for the files of IPFS in a store."""
     wrong, path = [], f"{at}/contents.db"
 
     def expect(what, words, status, said, told=b""):
@@ -451,7 +451,7 @@ def contents(program, at, draw):
 
 
 def words(program, at, draw):
-    """What `export`, `list` and `check` say of a store, and of one that was changed by hand; and what `import` refuses."""
+    """What `export`, `list` and `check` say about a store, and about one that was changed by hand; and what `import` refuses."""
     wrong, path = [], f"{at}/c.db"
 
     def expect(what, ran, status, said):
@@ -496,7 +496,7 @@ def words(program, at, draw):
     if (ran.returncode, ran.stdout, ran.stderr) != (1, b"", b"dagstore: no block has the name\n"):
         wrong.append(f"tree of a root that is not stored: {ran.returncode} {ran.stdout[:200]} {ran.stderr}")
 
-    # What links lead to is kept, from each root that is given, and nothing else; and of a root that is not stored nothing.
+    # What links lead to from each root that is given is kept, and nothing else; from a root that is not stored nothing is.
     tree = {above: grandparent, name: parent, held: blocks[held], raw[0]: raw[1], node[0]: node[1]}
     alone = next(n for n in blocks if n not in tree)
     removed = b"removed %d\n" % (len(blocks) + 1 - len(tree) - 1)
@@ -559,7 +559,7 @@ def words(program, at, draw):
     expect("remove A A", run(program, put, "remove", node, node), 0, b"removed 1\n")
     expect("count", run(program, put, "count"), 0, b"holds 2\n")
 
-    # A file that is read by its path; words that are no CID, or none; and what the program tells of itself.
+    # A file that is read by its path; words that are not a CID, or not there; and what the program says about itself.
     with open(f"{at}/in.car", "wb") as file:
         file.write(exported.stdout)
     expect("import of a path", run(program, f"{at}/f.db", "import", f"{at}/in.car"), 0, said)
@@ -579,7 +579,7 @@ def words(program, at, draw):
     if (ran.returncode, ran.stdout, ran.stderr) != (0, b"dagstore 0.7.0\n", b""):
         wrong.append(f"--version: {ran.returncode} {ran.stdout} {ran.stderr}")
 
-    # What is no file says which fault it has, and a file that is not there is not made.
+    # Bytes that are not a file say which fault they have, and a file that is not there is not made.
     cut = car_of(dict([block_of(draw)]))[:-1]
     ran = run(program, path, "import", given=cut)
     if (ran.returncode, ran.stderr) != (1, b"dagstore: after 0 sections\ndagstore: the input is not a CAR file: Truncated\n"):
@@ -591,7 +591,7 @@ def words(program, at, draw):
     if os.path.exists(f"{at}/none.db"):
         wrong.append("a word that reads made a file")
 
-    # A file with a block of other bytes at its end, and one that is cut, change nothing.
+    # A file that ends with a block of other bytes, and a file that is cut, change nothing.
     other = block_of(draw)
     for what, car in (("other bytes", car_of({**dict([block_of(draw)]), other[0]: b"\x41\x00"})), ("cut", car_of(dict([block_of(draw), other]))[:-1])):
         ran = run(program, path, "import", given=car)
@@ -623,7 +623,7 @@ def words(program, at, draw):
 
 
 def unread(program, at):
-    """Blocks of which it is not known what links they have: each command has one word for one, and nothing is lost."""
+    """Blocks whose links are not known: each command has one word for such a block, and nothing is lost."""
     wrong, path = [], f"{at}/u.db"
 
     def expect(what, ran, *wanted):
@@ -636,7 +636,7 @@ def unread(program, at):
 
     # A block of DAG-JSON, two raw ones, and lists of links.
     json, raw, alone = named(0x0129, b"[]"), named(0x55, b"\xf6\xf6"), named(0x55, b"alone")
-    # The second one is DAG-CBOR by another name, and none.
+    # Another name says that the second one is DAG-CBOR, which it is not.
     item = b"\x01\x71" + raw[0][2:]
     over_json, over_item = over(alone[0], json[0]), over(item)
     blocks = dict([json, raw, alone, over_json, over_item])
@@ -666,7 +666,7 @@ def unread(program, at):
 
 
 def foreign(program, at):
-    """Files that are none of ours are refused, and left as they are."""
+    """Files that are not stores of this program are refused, and left as they are."""
     wrong = []
     base = sqlite3.connect(f"{at}/other.db")
     base.execute("CREATE TABLE note (a)")
@@ -714,7 +714,7 @@ def wrong_rows(program, at):
 
 
 def check(report, program, count=200, seed=1):
-    """One line for each kind of run."""
+    """Prints a line for each kind of run."""
     with tempfile.TemporaryDirectory() as at:
         os.chmod(at, 0o777)
         wrong, killed = crash(program, f"{at}/a.db", count, seed)

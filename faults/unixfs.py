@@ -15,7 +15,7 @@ class Refused(Exception):
 
 
 class Stop(Exception):
-    """The line that tells why a file is not read on."""
+    """The line that tells why the reading of a file stops."""
 
 
 def number(data, at):
@@ -71,7 +71,7 @@ def codec_of(name):
 
 
 def block_of(blocks, name):
-    """The block under the name, if it is the one that it names."""
+    """The block under the name, if it has the bytes that the name says."""
     _, code, digest, _ = parts_of(name)
     block = blocks.get(name, digest if code == 0 else None)
     if block is None:
@@ -137,7 +137,7 @@ KINDS = ("file", "directory", "file", "metadata", "symlink", "shard")
 
 
 def entity(blocks, name):
-    """The kind and the size of the block under the name, in the words of a line, and whether it has a kind."""
+    """The kind and the size of the block under the name, in the words of a line, and if it has a kind."""
     try:
         block = block_of(blocks, name)
     except Stop as stop:
@@ -168,7 +168,7 @@ def shown(name):
 
 
 def ls(blocks, root):
-    """The lines of a directory that is there, and whether each entry has a kind."""
+    """The lines of a directory that is there, and if each entry has a kind."""
     links, _ = dagpb.read(blocks[root])
     told = [(entity(blocks, hash), hash, name) for hash, name, _ in links]
     lines = [f"{words} {text_of(hash)} ".encode() + shown(name) + b"\n" for (words, _), hash, name in told]

@@ -1,4 +1,4 @@
-"""The files that are made of schemas: of a crate, or of another language in a folder."""
+"""The files that are made from schemas: those of a crate, or those of another language in a folder."""
 
 import pathlib
 import re
@@ -16,13 +16,13 @@ STANDS_ON = "serde_ipld_dagcbor types_schema dagcbor_read"
 
 
 class CrateError(Exception):
-    """The crate can't be made."""
+    """The crate cannot be made."""
 
 
 def made_of(path, make, is_proved):
-    """What is made of a schema and of the name of its module. In Rattle it is proved."""
+    """What is made from a schema and from the name of its module. In Rattle it is proved."""
     if path.suffix != ".ipldsch" or not re.fullmatch(r"[a-z][a-z0-9]*(_[a-z0-9]+)*", path.stem):
-        raise CrateError(f"{path}: a schema's file has a name as a module's, and ends in .ipldsch")
+        raise CrateError(f"{path}: a schema's file is named as a module is, and ends in .ipldsch")
     try:
         text = path.read_text(encoding="utf-8")
     except (OSError, UnicodeDecodeError) as error:
@@ -36,11 +36,11 @@ def made_of(path, make, is_proved):
 def refuse_names(schemas, names):
     for path in schemas:
         if path.stem in names:
-            raise CrateError(f"{path}: no module is named {path.stem}")
+            raise CrateError(f"{path}: no module can be named {path.stem}")
 
 
 def files_of(schemas, folder, language=None):
-    """The folder; and the path of each file, and its text: of Rattle, or of another language."""
+    """Returns the folder, and the path and the text of each file: of Rattle, or of another language."""
     if language is None:
         return files_of_crate(schemas, folder)
     folder, maker = folder.resolve(), LANGUAGES[language]
@@ -66,7 +66,7 @@ def files_of_crate(schemas, crate):
     for module in modules:
         for one in module.definitions:
             if one.name in seen:
-                raise CrateError(f"`{one.name}` is a type of {seen[one.name]} and of {module.name}")
+                raise CrateError(f"`{one.name}` is a type both of {seen[one.name]} and of {module.name}")
             seen[one.name] = module.name
     made = {}
     for module in modules:
@@ -99,7 +99,7 @@ def line_of(crate):
 
 
 def left_over(crate, files):
-    """Files of the crate that were made of what is no longer in the schemas."""
+    """Yields the files of the crate that were made from something that is no longer in the schemas."""
     found = [path for name in ("src", "specs", "proofs") for path in (crate / name).rglob("*")]
     for path in sorted(found):
         if path.suffix in (".rt", ".antt") and path not in files and is_made(text_of(path)):
@@ -107,7 +107,7 @@ def left_over(crate, files):
 
 
 def text_of(path):
-    """That of a file, which others may have written."""
+    """Returns the text of a file, which others may have written."""
     return path.read_text(encoding="utf-8", errors="replace")
 
 
@@ -116,8 +116,8 @@ def is_made(text):
 
 
 def write(made, check, language=None):
-    """Writes the files, and answers a line for each that was another. A crate is all of its schemas; in a folder of
-    another language each file is by itself, and those of other calls stay."""
+    """Writes the files, and returns a line for each that differed. A crate is made from all of its schemas. In a folder of
+    another language each file is by itself, and the files of other calls stay."""
     folder, files = made
     told = []
     for path in left_over(folder, files) if language is None else ():
@@ -130,7 +130,7 @@ def write(made, check, language=None):
             continue
         if found is not None and not is_made(found):
             raise CrateError(f"{shown(path)} was not made by this tool: move it away first")
-        told.append(f"{'another' if check else 'written'}: {shown(path)}")
+        told.append(f"{'differs' if check else 'written'}: {shown(path)}")
         if not check:
             path.parent.mkdir(parents=True, exist_ok=True)
             path.write_text(text, encoding="utf-8")
@@ -138,7 +138,7 @@ def write(made, check, language=None):
 
 
 def listed(crate, check):
-    """Adds the crate's line to crates.txt, where it has none."""
+    """Adds the crate's line to crates.txt if it has none, and returns what it did."""
     table = crate.parent.parent / "crates.txt"
     if not table.exists():
         return []
@@ -147,7 +147,7 @@ def listed(crate, check):
         return []
     if not check:
         table.write_text(text.rstrip("\n") + f"\n{line_of(crate)}\n", encoding="utf-8")
-    return [f"{'wanting' if check else 'added'} in crates.txt: {line_of(crate)}"]
+    return [f"{'missing' if check else 'added'} in crates.txt: {line_of(crate)}"]
 
 
 def shown(path):

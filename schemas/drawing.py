@@ -1,6 +1,6 @@
-"""Schemas drawn at random, which keep the law: every kind of type, names of 1 to 40 letters, up to 18 fields, types within
-types, in every order. A seed draws the same schema always. So many seeds in a row as there are PAIRS draw a union of each pair of
-members' kinds, and one of each kind alone."""
+"""Schemas drawn at random, within the law: every kind of type, names of 1 to 40 letters, up to 18 fields, types within types,
+in every order. A seed always draws the same schema. PAIRS seeds in a row draw a union of each pair of members' kinds, and one of
+each kind alone."""
 
 import itertools
 import random
@@ -12,18 +12,18 @@ from schemas.parsing import WIDTHS, SchemaError, parse
 
 LETTERS = string.ascii_letters + string.digits
 LENGTHS = (1, 2, 3, 5, 8, 13, 21, 40)
-LONG = 21  # from here on a word has no capitals behind the first, which would make it longer as a field's name
+LONG = 21  # from here on a word has no capitals after the first, which would make it longer as a field's name
 SCALARS = ("Int", "String", "Bytes", "Bool", "&Any", "Any")
 KINDED = {"bool": "Bool", "int": "Int", "string": "String", "bytes": "Bytes", "link": "&Any", "list": "", "map": ""}
-MOST_FIELDS = 14  # of a tuple, and of a struct in which a field means a value where it is left out
-MOST_IN_ALL = 18  # fields, members and cases of a schema: a struct may have all, and is read and written in groups then
-MOST_TYPES = 3  # so that its proof takes a minute or two of a processor
+MOST_FIELDS = 14  # of a tuple, and of a struct with an implicit field
+MOST_IN_ALL = 18  # fields, members and cases of a schema: a struct may have all of them, and is then read and written in groups
+MOST_TYPES = 3  # so that its proof takes a processor a minute or two
 DRAWN = ("struct", "tuple", "pairs", "enum", "numbers", "nothing", "items", "entries", "keyed", "kinded", "inline", "envelope")
-MEMBERS = (*SCALARS, *DRAWN)  # of a union: a type that has a name, or the form of one that is drawn for it
+MEMBERS = (*SCALARS, *DRAWN)  # of a union: a type that has a name, or the form of a type that is drawn for it
 
 
 def pairs():
-    """The kinds of a union's members: one, or two. No union has a scalar twice."""
+    """The kinds of a union's members: one or two. No union has a scalar twice."""
     made = [(one,) for one in MEMBERS] + [pair for pair in itertools.combinations_with_replacement(MEMBERS, 2) if pair[0] != pair[1] or pair[0] in DRAWN]
     random.Random("pairs").shuffle(made)
     return made
@@ -63,7 +63,7 @@ class Drawing:
         return self.word(string.ascii_letters, LETTERS + "_", taken, field_name)
 
     def text(self, taken):
-        """What stands in the data: any printable text that the law allows."""
+        """A text in the data: any printable text that the law allows."""
         letters = [char for char in string.printable[:95] if char not in '"\\']
         while True:
             word = "".join(self.random.choice(letters) for _ in range(self.random.choice((0, *LENGTHS))))
@@ -72,7 +72,7 @@ class Drawing:
                 return word
 
     def some(self, most):
-        """How many parts: each takes of what is left."""
+        """A number of parts: each takes from what is left."""
         count = max(1, min(self.random.choice((1, 2, 2, 3, 3, 4, 5, most)), most, self.left))
         self.left -= count
         return count
@@ -80,7 +80,7 @@ class Drawing:
     # -- types of values
 
     def value(self, depth=0):
-        """A type of a value, and the note that may stand behind it."""
+        """A type of a value, and the note that may stand after it."""
         draw = self.random.random()
         if self.made and draw < 0.3:
             return self.random.choice(self.made), ""
@@ -98,7 +98,7 @@ class Drawing:
     # -- definitions
 
     def field_types(self, count):
-        """The types of a struct's fields: of many they are plain, as the prover wants it where they are not read in groups."""
+        """The types of a struct's fields. If there are many they are plain: the prover needs that if they are not read in groups."""
         most_steps = 2 if 8 < count <= MOST_FIELDS else 16
         for _ in range(count):
             while True:
@@ -110,7 +110,7 @@ class Drawing:
             yield kind, note, before
 
     def meant(self, kind, note):
-        """What a field means that is left out, where its type has such values."""
+        """The implicit value of a field, if its type has such values."""
         if kind == "Bool":
             return self.random.choice(("true", "false"))
         least, most = bounds(note.removeprefix(" # as "))
@@ -161,7 +161,7 @@ class Drawing:
         return [f"type {name} enum {{", *rows, "} representation int"]
 
     def cases(self, most):
-        """The members of a union that are told by texts."""
+        """The members of a union that texts tell apart."""
         held = ["Int", "String", "Bytes", "Bool", "&Any", "Any"] + self.made * 3
         chosen, names, keys = [], set(), set()
         for _ in range(self.some(most)):
@@ -172,7 +172,7 @@ class Drawing:
         return chosen
 
     def member(self, kind):
-        """A member of this kind, of which a type may be drawn for it."""
+        """A member of this kind; a type may be drawn for it."""
         if kind in SCALARS:
             return kind
         name = self.type_name()
@@ -194,7 +194,7 @@ class Drawing:
         return self.told(name, self.cases(4))
 
     def told(self, name, cases):
-        """A union whose tag stands before its content, in the order of the keys."""
+        """A union whose tag comes before its content, in the order of the keys."""
         keys = set()
         while len(keys) < 2:
             self.text(keys)
@@ -202,7 +202,7 @@ class Drawing:
         return union(name, cases, "envelope", f'discriminantKey "{tag}"', f'contentKey "{content}"')
 
     def kinded(self, name):
-        """A union of kinds, of which a list and a map are drawn for it."""
+        """A union of kinds; a list and a map are drawn for it."""
         rows = []
         for kind in self.random.sample(sorted(KINDED), self.some(len(KINDED))):
             held = KINDED[kind]
@@ -235,7 +235,7 @@ class Drawing:
         return [f"type {name} unit representation {self.random.choice(('null', 'true', 'false', 'emptymap'))}"]
 
     def inline(self, name):
-        """A union of structs that are drawn for it: no key is that which tells them."""
+        """A union of structs that are drawn for it: none of their keys is the one that tells them apart."""
         members, keys = [], set()
         is_open, tag = self.random.choice(("", " # open")), self.text(keys)
         for _ in range(self.random.choice((1, 2, 3))):

@@ -1,18 +1,18 @@
-"""How a struct of many fields is read: in groups, each a struct that the schema's module keeps to itself, since the prover takes few
-fields at once."""
+"""How a struct of many fields is read: in groups. Each group is a struct that the schema's module keeps to itself, because the
+prover takes few fields at once."""
 
 from typing import NamedTuple
 
 from schemas.law import MOST_IN_GROUP, field_name, in_parts, may_lack
 from schemas.layout import INSIDE_STRUCT, Group, function, ghost, impl, lines, pairs_of, typed
 
-# The ghost members of a group, in order; those with no rows of their own are as its row's.
+# The ghost members of a group, in order; a member that has no rows of its own is as in the group's row.
 MEMBERS = """OwnState own_state own_unread own_shape following OwnView own_meaning own_finish Held held shape_before joins Shows shows
     finish_before finishes own_refuses""".split()
 
 
 class Part(NamedTuple):
-    """What a group holds: its name and type, what it is in the row that is read and while that is read, what it means, and how it is
+    """What a group holds: its name and type, what it is in the row that is read and during reading, what it means, and how it is
     taken out of the row."""
 
     word: str
@@ -24,7 +24,7 @@ class Part(NamedTuple):
 
 
 def groups_of(module, struct, few):
-    """All groups of a struct whose fields stand in these few, innermost first, and those that its row is made of."""
+    """All groups of a struct with these few fields, innermost first, and the groups that its row is made of."""
     row = [of_fields(module, struct, place + 1, fields) for place, fields in enumerate(few)]
     groups = row[:]
     while len(row) > MOST_IN_GROUP:
@@ -54,7 +54,7 @@ def of_groups(struct, number, groups):
 
 
 def group_word(struct):
-    """How a group is called where it stands in a variable: no field's name begins so."""
+    """The name of a group that stands in a variable: no field's name begins so."""
     word, taken = "group", [field_name(field.name) for field in struct.fields]
     while any(name.startswith(word) for name in taken):
         word += "_"
@@ -62,10 +62,10 @@ def group_word(struct):
 
 
 class FieldGroup:
-    """A group: what it holds, in a struct, and its impl by the row of that."""
+    """A group: what it holds, as a struct, and its impl by the row of that."""
 
     def __init__(self, struct, number, parts, about, pub=""):
-        self.parts, self.about, self.pub = parts, about, pub  # pub stands before the structs and their fields
+        self.parts, self.about, self.pub = parts, about, pub  # pub comes before the structs and their fields
         self.name, self.row, self.own = (f"{struct.name}{word}{number}" for word in ("Group", "Row", "Own"))
         self.word = f"{group_word(struct)}{number}"
 
@@ -131,12 +131,12 @@ class FieldGroup:
 
 
 def form(field):
-    """What holds a field in a row: one that must be there, or that may be absent."""
+    """What holds a field in a row: a field that must be there, or one that may be absent."""
     return "Omissible" if may_lack(field) else "Required"
 
 
 def joined(kinds):
-    """A type of pairs, one in the next, with nothing behind the last."""
+    """A type of pairs, each within the one before; nothing comes after the last."""
     *before, made = kinds
     for kind in reversed(before):
         made = f"({kind}, {made})"

@@ -1,7 +1,7 @@
-"""What is made of a schema in Python and TypeScript: one walk over its types, with the templates of the language.
+"""What is made from a schema in Python and TypeScript: one walk over its types, with the templates of the language.
 
-A method makes each representation, as `struct_map`; a representation without one is refused by name. So is what a wider parser says
-of a part and no maker knows of."""
+A method makes each representation, for example `struct_map`. A representation that has no method is refused by name. So is
+anything that a wider parser says of a part and that no maker knows."""
 
 import dataclasses
 import re
@@ -39,7 +39,7 @@ WAYS = ("read", "write")
 
 @dataclasses.dataclass
 class Part:
-    """What reads a field: a function, what it is given, and the test of whether a field is there that may be left out."""
+    """What reads a field: a function, its arguments, and, if the field may be left out, the test of whether it is there."""
 
     field: Field
     function: str
@@ -48,27 +48,28 @@ class Part:
 
 
 class Language:
-    """What is made of one schema: one file. A subclass is a language: it has the templates below, in which {} stands for what is put
-    there, and what no template says, as methods: `head`, `declared`, `field_name`, `function`, `helper`, `integer_type`, `list_type`,
-    `quoted`, `meant`, `guarded`, `constructed`, `written_map`, `looked_at`, `enum`, `unit` and `kind_patterns`."""
+    """What is made from one schema: one file. Each language is a subclass. It has the templates below, in which {} stands for the
+    parts that are put in, and methods for what no template says: `head`, `declared`, `field_name`, `function`, `helper`,
+    `integer_type`, `list_type`, `quoted`, `meant`, `guarded`, `constructed`, `written_map`, `looked_at`, `enum`, `unit` and
+    `kind_patterns`."""
 
-    called = suffix = ""  # its name, and that of its files
+    called = suffix = ""  # its name, and the ending of its files' names
     step, end, gap = 4, "", 1  # of an indent; of a statement; empty lines between two blocks
     kinds = ()  # of members of a kinded union
     taken = closed_modules = frozenset()  # names of types that the made code uses itself, and names that no file may have
-    front, back = {}, {}  # the blocks of helpers by their names: before the types, and behind all
+    front, back = {}, {}  # the blocks of helpers by their names: before the types, and after everything
 
     scalars, map_type, null, data = {}, "", "", ""  # types: of leaves, maps, null and all data
     function_head, function_end = "", []  # of a function that reads or writes: the first row, and those after its body
     let, let_two, let_list = "", "", ""  # what sets a variable, two variables, and one that is a list of data
     number, path_of, length, added = "{}", "", "", ""  # a number, a place, how many items a list has, and what adds one
-    struct_value, map_value = "", ""  # the value, where it is a struct or a map
-    is_there, absent = "", ("", "")  # whether a field is there; what stands for one that is not, and where null is a value
-    has = {"entries": "", "pairs": "", "items": ""}  # whether what is read has a field
+    struct_value, map_value = "", ""  # the value, if it is a struct or a map
+    is_there, absent = "", ("", "")  # whether a field is there; what stands for one that is not, and for one if null is a value
+    has = {"entries": "", "pairs": "", "items": ""}  # whether the data has a field
     choice_by, choice_end = "", []  # the first row of a choice, and those of its last statement
     refusal = ""  # a statement that refuses what is at a place
-    part, union = "held", "value"  # the variables of what a member holds, where it is read, and of a union that is written
-    told_by, kind = "value", "value"  # what tells the member that a union is, and its kind
+    part, union = "held", "value"  # the variables of what a member holds: in reading, and of a union that is written
+    told_by, kind = "value", "value"  # what tells which member a union is, and its kind
     member, member_pattern, no_member = ("", [], ""), "", ""  # what makes a member, its pattern, and what refuses others
     map_of_data, tagged, prefixed = ("", ""), ("", [], ""), ("", [], "")  # data: a map, one with a tag, a text with a prefix
     tag_of, has_prefix, without_prefix = "", "", ""  # the tag of a map and its other entries; and of a text
@@ -86,7 +87,7 @@ class Language:
         raise SchemaError(place, f"{what} is not made in {self.called} yet")
 
     def check(self, node):
-        """Refuses what is not known of a part of the schema, and of the parts in it."""
+        """Refuses what is not known of a part of the schema, and of the parts within it."""
         kind = type(node)
         name = f"`{getattr(node, 'name', kind.__name__)}`"
         if kind not in KNOWN:
@@ -115,10 +116,10 @@ class Language:
                 once(fields, self.field_name(field), field.place, "two fields have the name")
 
     def check_field(self, field):
-        """Refuses a field that the language has no name for."""
+        """Refuses a field if the language has no name for it."""
 
     def type_names(self, one):
-        """The names of the types that are made of a definition."""
+        """The names of the types that are made from a definition."""
         return [one.name]
 
     # ---- the file, in blocks of lines
@@ -134,7 +135,7 @@ class Language:
         return "\n".join(rows) + "\n"
 
     def used(self, made):
-        """The helpers that these blocks use, and those that those use."""
+        """The helpers that these blocks use, and in turn the helpers that those use."""
         used, found = {}, words_of(made)
         helpers = self.front | self.back
         while new := {name: block for name, block in helpers.items() if name in found and name not in used}:
@@ -143,7 +144,7 @@ class Language:
         return ([block for name, block in part.items() if name in used] for part in (self.front, self.back))
 
     def joined(self, blocks):
-        """The lines of the blocks, with the language's gap between two; blocks of one line stand together."""
+        """The lines of the blocks, with the language's gap between two; blocks of one line have no gap."""
         rows, before = [], []
         for block in blocks:
             rows += [""] * (0 if not before or len(before) == len(block) == 1 else self.gap)
@@ -160,7 +161,7 @@ class Language:
     # ---- a type of a value
 
     def annotation(self, kind):
-        """The type as it is written, with the schema's names."""
+        """The type as it is written, in the schema's names."""
         if isinstance(kind, Int):
             return self.integer_type(kind.width)
         if isinstance(kind, Link):
@@ -175,7 +176,7 @@ class Language:
         return self.list_type(part) if isinstance(kind, ListOf) else self.map_type.format(part)
 
     def conversion(self, kind, way):
-        """The function that checks a value of the type, and reads it, or writes it: where these differ."""
+        """The function that checks a value of the type, and reads or writes it, if reading and writing differ."""
         if self.schema.is_recursive_alias(kind):
             return self.function(way, kind.name)
         kind = self.schema.resolve(kind)
@@ -191,19 +192,19 @@ class Language:
         return f"{self.helper(word)}({self.conversion(parts(kind)[0], way)})"
 
     def others(self, union, case):
-        """The fields of the other members of an inline union, which are looked at even where they are skipped, if they are of one type."""
+        """The fields of an inline union's other members that have one type in all: they are checked even if they are skipped."""
         struct = self.schema.case_struct(case)
         own = {field.key for field in struct.fields}
         others = [field for field in self.schema.row_of(union) if struct.open and field.key not in own]
         return [field for field in others if self.schema.has_one_type(union, field.key)]
 
     def case_kind(self, case):
-        """What a member of a kinded union holds: each int of the data, where its type is Int."""
+        """What a member of a kinded union holds: if its type is Int, any int of the data."""
         kind = self.schema.resolve(case.type)
         return Int("i128", case.place) if isinstance(kind, Int) and kind.width == DEFAULT_WIDTH else case.type
 
     def has_null(self, kind):
-        """Whether null is a value of the type, so that it can't stand for what is left out."""
+        """Returns true if null is a value of the type: then null cannot stand for a field that is left out."""
         return self.schema.has_null(self.schema.resolve(kind))
 
     # ---- values
@@ -213,31 +214,31 @@ class Language:
         return self.quoted(data) if isinstance(data, str) else self.number.format(data)
 
     def property_name(self, key):
-        """A key in a map that is spelled out."""
+        """A key in a map that is written out."""
         return self.quoted(key)
 
     def meant_data(self, field):
-        """What a field means that is left out, in the data."""
+        """The implicit value of a field, in the data."""
         value = field.implicit.value
         return self.literal(value.data) if isinstance(value, Member) else self.meant(field)
 
     def path(self, *steps):
-        """The place of what is so many steps within the value."""
+        """The place of a part that is this many steps within the value."""
         return self.path_of.format(", ".join(map(str, steps))) if steps else "at"
 
     def read(self, case, value, *steps):
-        """What is read of what a member holds, which is so many steps within the whole."""
+        """What is read from what a member holds, which is this many steps within the whole."""
         return f"{self.conversion(case.type, 'read')}({value}, {self.path(*steps)})"
 
     def written(self, part, *steps):
-        """What is written of a field, or of what a member holds."""
+        """What is written for a field, or for what a member holds."""
         value = f"held.{self.field_name(part)}" if isinstance(part, Field) else f"{self.union}.value"
         return f"{self.conversion(part.type, 'write')}({value}, {self.path(*steps)})"
 
     # ---- statements
 
     def call(self, indent, head, items, close):
-        """A call, or another row of items between brackets: in one line where it fits, else each item on its own."""
+        """A call, or other items between brackets: on one line if they fit, else one item a line."""
         margin, inside = " " * indent, ", ".join(items)
         if not items or indent + len(head) + len(inside) + len(close) <= WIDTH:
             return [f"{margin}{head}{inside}{close}"]
@@ -260,11 +261,11 @@ class Language:
         return self.row(self.let.format("held") + self.struct_value.format(struct.name))
 
     def there(self, field):
-        """The test of whether a value has a field that may be left out."""
+        """Returns the test of whether a value has a field that may be left out."""
         return self.is_there.format(self.field_name(field), self.absent[self.has_null(field.type)])
 
     def choice(self, value, arms, last):
-        """A choice by a value: of each arm the pattern and the rows; and the last statement, where it is none of these."""
+        """A choice by a value: the pattern and the rows of each arm, and the last statement, for any other value."""
         rows = [" " * self.step + self.choice_by.format(value)]
         for pattern, body in arms:
             rows += [f"{' ' * self.step * 2}case {pattern}:", *body]
@@ -273,23 +274,23 @@ class Language:
     # ---- functions
 
     def both(self, one, read, write):
-        """The functions that read a type and write it, of their bodies."""
+        """The functions that read and write a type, from their bodies."""
         if one.name in self.schema.recursive:
             write = [self.row(f"{self.helper('bounded')}(at)"), *write]
         return [self.converter("read", one, one.name, read), self.converter("write", one, self.data, write)]
 
     def converter(self, way, one, kind, body):
-        """The function that reads or writes a type, and makes what is of a type."""
+        """The function that reads or writes a type, and makes what belongs to the type."""
         return [self.function_head.format(self.function(way, one.name), kind), *body, *self.function_end]
 
     def recursive_alias(self, one):
-        """Those of a list or a map that holds itself."""
+        """The functions of a list or a map that holds itself."""
         return self.both(one, *([self.row(f"return {self.conversion(one.of, way)}(value, at)")] for way in WAYS))
 
     # -- structs
 
     def part_of(self, word, field, key):
-        """What reads a field that stands under a key: of the entries by the helper `field`, and of pairs by `paired`."""
+        """What reads a field under a key: from the entries by the helper `field`, and from pairs by `paired`."""
         source = "entries" if word == "field" else "pairs"
         given = [source, key, "at", self.conversion(field.type, "read")]
         return Part(field, self.helper(word), given, self.has[source].format(key))
@@ -322,14 +323,14 @@ class Language:
         return self.put(field, f"entries[{key}] = {write}(", given, ")")
 
     def put(self, field, *added):
-        """The statement that adds a field, under a condition where that may be left out."""
+        """The statement that adds a field, under a condition if the field may be left out."""
         return self.guarded(self.there(field), *added) if field.optional else self.statement(*added)
 
     def struct_tuple(self, struct):
         return self.both(struct, self.read_tuple(struct), self.written_tuple(struct))
 
     def items(self, struct):
-        """The items of a list, of which there are as many as a struct has fields."""
+        """The items of a list that has as many as a struct has fields."""
         least, most = count_needed(struct), len(struct.fields)
         return f"{self.helper('items')}(value, at, {most if least == most else f'{least}, {most}'})"
 
@@ -365,7 +366,7 @@ class Language:
         return self.both(struct, read, write)
 
     def read_pairs(self, struct):
-        """Of a list of pairs of which some may be left out."""
+        """The same for a list of pairs, some of which may be left out."""
         keys = [self.quoted(field.key) for field in struct.fields]
         head = f"{self.let.format('pairs')}{self.helper('pairs')}("
         parts = [self.part_of("paired", field, key) for field, key in zip(struct.fields, keys)]
@@ -430,7 +431,7 @@ class Language:
         return self.told(union, head, "tag", self.path(key), read, write)
 
     def union_envelope(self, union):
-        """A map of two entries: one tells the member, and the other is what that holds."""
+        """A map of two entries: one tells the member, and the other is what the member holds."""
         tag, content = self.quoted(union.discriminant), self.quoted(union.content)
 
         def read(case):
@@ -467,13 +468,13 @@ class Language:
         return self.both(union, *(self.choice(self.kind, some, last) for some in arms.values()))
 
     def told(self, union, head, tag, at, read, write):
-        """The functions of a union, where a variable tells the member by a text at a place, of what reads and writes each."""
+        """The functions of a union in which a text at a place tells the member, from what reads and writes each member."""
         arms = [(self.quoted(case.data), read(case)) for case in union.cases]
         choice = self.choice(tag, arms, self.refusal.format(at, "unknown variant"))
         return self.both(union, [self.row(head), *choice], self.written_member(union, write))
 
     def written_member(self, union, write):
-        """The rows that write the member that the value is, by those of each."""
+        """The rows that write the member that the value is, from those of each member."""
         arms = [(self.member_pattern.format(union.name, case.name), write(case)) for case in union.cases]
         held = [self.held(union)] if self.union == "held" else []
         return held + self.choice(self.told_by, arms, self.no_member.format(union.name))
@@ -507,12 +508,12 @@ def power_of_two(number, power, suffix=""):
 
 
 def named(one):
-    """The type that a definition names."""
+    """Returns the type that a definition names."""
     return Named(one.name, one.place)
 
 
 def parts_of(node):
-    """The parts of a schema that stand in this one."""
+    """The parts of a schema that stand within this one."""
     if isinstance(node, Alias):
         return [node.of]
     if isinstance(node, (Field, Case)):
@@ -524,13 +525,13 @@ def parts_of(node):
 
 
 def words_of(blocks):
-    """The words of the blocks, without those of comments and texts."""
+    """The words of the blocks, without comments and texts."""
     text = "\n".join(row for block in blocks for row in block if not row.strip().startswith(COMMENTS))
     return set(re.findall(r"\w+", TEXTS.sub("", text)))
 
 
 def named_blocks(text):
-    """The blocks of a text, by their names: each begins with comments and then the line that declares its name."""
+    """The blocks of a text, by their names: each begins with comments, and then comes the line that declares its name."""
     blocks = [block.split("\n") for block in re.split(r"\n\n(?=\S)", text.strip("\n"))]
     return {next(NAME.match(row)[1] for row in rows if NAME.match(row)): rows for rows in blocks}
 

@@ -1,4 +1,4 @@
-"""What a schema must keep so that types can be made of it: names, keys, and no type that holds itself."""
+"""What a schema must keep so that types can be made from it: its names, its keys, and no type that holds itself."""
 
 import re
 
@@ -23,7 +23,7 @@ from schemas.parsing import (
 MOST_FIELDS = 14  # of a row that is read or written as one
 MOST_PAIRS = 3  # of the fields of a struct that is a list of pairs
 MOST_STEPS = 16  # of such a row: one for a field, and one for each list, map, nullable and optional of its type
-MOST_IN_GROUP = 8  # fields of a group, or groups of one, where a row is more than the prover takes at once
+MOST_IN_GROUP = 8  # fields of a group, or groups of one, if a row is more than the prover takes at once
 KINDS = ("bool", "int", "string", "bytes", "list", "map", "link")  # of the members of a kinded union
 
 # The kind of all data of a representation, of a leaf and of other types.
@@ -35,7 +35,7 @@ KIND_OF |= {word: "map" for word in ("map", "keyed", "inline", "envelope")}
 # What a link may lead to, beside the types of the schema.
 DATA_MODEL = ("Any", "Bool", "Bytes", "Float", "Int", "Link", "List", "Map", "String")
 
-# Names of the data model, which no type has; and those that made Rattle uses, or Rust has.
+# Names of the data model, which no type may have; and names that made Rattle uses, or that Rust has.
 OF_DATA_MODEL = {*DATA_MODEL, "Null", "Unit"}
 TAKEN = OF_DATA_MODEL | set(
     """Box Clone Copy Debug Default Drop Eq Err From Hash Into Iterator Model Never None Ok Option Ord PartialEq PartialOrd Result Self
@@ -67,8 +67,8 @@ def path_name(module):
 
 
 class Schema:
-    """Definitions that keep the law: where the types are to be proved they are no more than the prover takes, and than the forms of
-    Rattle have."""
+    """Definitions that keep the law. If their types are to be proved, they are no more than the prover takes and than Rattle has
+    forms for."""
 
     def __init__(self, definitions, is_proved=True):
         self.by_name, self.is_proved = {}, is_proved
@@ -82,7 +82,7 @@ class Schema:
         self.ordered = self.in_order()
         if not is_proved:
             self.refuse_endless()
-        self.recursive = {one.name for one in self.definitions if one.name in self.reached(one)}  # those that hold themselves
+        self.recursive = {one.name for one in self.definitions if one.name in self.reached(one)}  # definitions that hold themselves
         checks = {Struct: self.check_struct, Enum: self.check_enum, Union: self.check_union}
         for definition in self.definitions:
             if type(definition) in checks:
@@ -98,20 +98,20 @@ class Schema:
             raise SchemaError(place, f"`{name}` is a name of {of}: choose another")
         for other in self.by_name.values():
             if snake(other.name) == snake(name):
-                raise SchemaError(place, f"`{name}` and `{other.name}` (line {other.place.line}) are one name in lower case")
+                raise SchemaError(place, f"`{name}` and `{other.name}` (line {other.place.line}) are the same name in lower case")
             if self.is_proved:
                 refuse_made_name(name, other, place)
         self.by_name[name] = definition
 
     def check_capital(self, what, name, place):
-        """The name of a type, or of an enum's or a union's member. Rattle's are short."""
+        """The name of a type, or of a member of an enum or a union. Rattle's are short."""
         most = 39 if self.is_proved else len(name)
         if not re.fullmatch(f"[A-Z][A-Za-z0-9]{{0,{most}}}", name):
             raise SchemaError(place, f"a {what}'s name is a capital and {'up to 39 ' * self.is_proved}letters and digits, and not `{name}`")
 
     def resolve(self, kind):
-        """The type with its aliases replaced by what they stand for, and a nullable Any by Any, which has null already. An alias of
-        what holds itself is replaced where it is the whole type, and keeps its name within."""
+        """The type, with each alias replaced by what it stands for, and a nullable Any by Any, which has null already. If an alias
+        stands for something that holds itself, it is replaced only if it is the whole type, and keeps its name within others."""
         if isinstance(kind, Named):
             definition = self.by_name[kind.name]
             return self.resolve(definition.of) if isinstance(definition, Alias) else kind
@@ -128,7 +128,7 @@ class Schema:
         return kind if self.is_recursive_alias(kind) else self.resolve(kind)
 
     def named(self, kind):
-        """The definition that a type names; None of other types."""
+        """The definition that a type names, or None."""
         return self.by_name.get(kind.name) if isinstance(kind, Named) else None
 
     def case_struct(self, case):
@@ -136,7 +136,7 @@ class Schema:
         return self.named(self.resolve(case.type))
 
     def is_recursive_alias(self, kind):
-        """Whether it is the name of a list or a map that holds itself."""
+        """Returns true if it is the name of a list or a map that holds itself."""
         one = self.named(kind)
         return isinstance(one, Alias) and isinstance(one.of, (ListOf, MapOf)) and one.name in self.recursive
 
@@ -144,10 +144,10 @@ class Schema:
     def has_null(kind):
         return isinstance(kind, Nullable) or is_leaf(kind, "Any")
 
-    # -- what is another form of a struct
+    # -- other forms of a struct
 
     def plain(self, definition):
-        """A map whose keys are an enum's texts, and the unit that is an empty map, are structs."""
+        """A map whose keys are an enum's texts, and the unit that is an empty map, become structs."""
         if is_a(definition, "unit_emptymap"):
             return Struct(definition.name, [], "map", False, definition.place, definition.text)
         of = definition.of if isinstance(definition, Alias) else None
@@ -162,7 +162,7 @@ class Schema:
         if enum is None:
             raise SchemaError(kind.key.place, f"unknown type `{kind.key.name}`")
         if not is_a(enum, "enum_string"):
-            raise SchemaError(kind.key.place, f"keys are String, or of an enum of texts, and not `{kind.key.name}`")
+            raise SchemaError(kind.key.place, f"a key's type is String or an enum of texts, and not `{kind.key.name}`")
         return enum
 
     # -- each definition
@@ -173,7 +173,7 @@ class Schema:
                 raise SchemaError(kind.place, f"unknown type `{kind.name}`")
         if isinstance(kind, MapOf) and kind.key is not None:
             self.keys_of(kind)
-            raise SchemaError(kind.key.place, f"a map whose keys are an enum's has a name of its own: `type X {{{kind.key.name}:..}}`")
+            raise SchemaError(kind.key.place, f"a map with an enum's keys needs a name of its own: `type X {{{kind.key.name}:..}}`")
         if isinstance(kind, Link) and kind.to not in self.by_name and kind.to not in DATA_MODEL:
             raise SchemaError(kind.place, f"unknown type `{kind.to}`")
         for part in parts(kind):
@@ -200,41 +200,41 @@ class Schema:
             checks[struct.representation](struct)
 
     def implied(self, struct, field):
-        """What a field means that is left out, as a value of its type."""
+        """The implicit value of a field, as a value of its type."""
         kind, value, place = self.implied_type(field), field.implicit.value, field.implicit.place
         if struct.representation != "map":
-            raise SchemaError(place, f"a field of a {struct.representation} means nothing where it is left out: `{field.name}`")
+            raise SchemaError(place, f"a field of a {struct.representation} cannot have an implicit value: `{field.name}`")
         if field.optional:
-            raise SchemaError(place, f"`{field.name}` is optional: what is left out means no value")
+            raise SchemaError(place, f"`{field.name}` is optional, and so cannot have an implicit value")
         enum = self.named(kind)
         if isinstance(enum, Enum):
             for member in enum.members:
                 if value == member.data or enum.representation == "int" and value == str(member.data):
                     return Literal(member, place)
-            raise SchemaError(place, f"{value} is no member of `{enum.name}`: `{field.name}`")
+            raise SchemaError(place, f"{value} is not a member of `{enum.name}`: `{field.name}`")
         if isinstance(kind, Int) and re.fullmatch(r"0|-?[1-9][0-9]*", str(value)):
             least, most = bounds(kind.width)
             if least <= int(value) <= most:
                 return Literal(int(value), place)
-            raise SchemaError(place, f"{value} is no {kind.width}: `{field.name}`")
+            raise SchemaError(place, f"{value} is not a value of {kind.width}: `{field.name}`")
         if is_leaf(kind, "Bool") and (isinstance(value, bool) or value in ("true", "false")):
             return Literal(value in (True, "true"), place)
         if is_leaf(kind, "String") and isinstance(value, str) and not self.is_proved:
             return Literal(value, place)
         others = "a Bool, an Int" if self.is_proved else "a Bool, an Int, a String"
-        raise SchemaError(place, f"a field that means a value where it is left out is {others} or of an enum here: `{field.name}`")
+        raise SchemaError(place, f"the type of a field with an implicit value is {others} or an enum here: `{field.name}`")
 
     def implied_type(self, field):
-        """The type of what a field means that is left out. Where nothing is proved, the field may be nullable."""
+        """The type of the implicit value of a field. If nothing is proved, the field may be nullable."""
         kind = self.resolve(field.type)
         return self.resolve(kind.part) if isinstance(kind, Nullable) and not self.is_proved else kind
 
     def check_size(self, struct):
-        """The prover takes so much for one statement: what is not read in groups may pass it, or one field alone."""
+        """The prover has a limit for one statement. A row that is not read in groups may pass it, and so may one field alone."""
         if not in_groups(struct) and len(struct.fields) > MOST_FIELDS:
             raise SchemaError(
                 struct.fields[MOST_FIELDS].place,
-                f"a struct that is a tuple, or of which a field means a value where it is left out, has at most {MOST_FIELDS} fields here, which the"
+                f"a struct that is a tuple, or has a field with an implicit value, has at most {MOST_FIELDS} fields here, which the"
                 f" prover can take: move some of `{struct.name}` into a struct of their own",
             )
         for group in self.row_groups(struct):
@@ -252,7 +252,7 @@ class Schema:
         return depth(self.resolve(field.type)) + field.optional
 
     def row_groups(self, struct):
-        """The fields in the groups that the prover takes at once: one, where it takes them all."""
+        """The fields in groups that the prover takes at once: one group, if it takes them all."""
         steps = [self.steps(field) for field in struct.fields]
         if not in_groups(struct) or (len(steps) <= MOST_FIELDS and sum(steps) <= MOST_STEPS):
             return [struct.fields]
@@ -270,7 +270,7 @@ class Schema:
         absent = None
         for field in struct.fields:
             if absent and not field.optional:
-                raise SchemaError(field.place, f"behind `{absent.name}`, which is optional, each field of a tuple is: `{field.name}`")
+                raise SchemaError(field.place, f"after `{absent.name}`, which is optional, each field of a tuple is too: `{field.name}`")
             absent = field if field.optional else None
             if field.key != field.name:
                 raise SchemaError(field.place, f"a field of a tuple has no name in the data: `{field.name}`")
@@ -278,7 +278,7 @@ class Schema:
             raise SchemaError(struct.place, f"a tuple has no other keys to skip: `{struct.name}`")
 
     def check_join(self, struct):
-        """The fields are pieces of a text, which what separates them parts again."""
+        """The fields are pieces of a text, and splitting it at its separator gives them again."""
         self.refuse_text(struct)
         if not struct.join or not struct.fields or struct.open:
             raise SchemaError(struct.place, f"a stringjoin has fields, a text between them, and no other keys to skip: `{struct.name}`")
@@ -296,7 +296,7 @@ class Schema:
                     raise SchemaError(other.place, f"the prefix `{other.data}` begins with `{case.data}`, which is another's")
 
     def refuse_text(self, definition):
-        """Refuses what is not made in Rattle, where the pieces of a text would take memory; and a text within itself, whose depth
+        """Refuses what is not made in Rattle because the pieces of a text would take memory; and a text within itself, whose depth
         nothing bounds."""
         if self.is_proved:
             raise SchemaError(definition.place, f"{definition.representation} is not supported yet: `{definition.name}`")
@@ -305,10 +305,10 @@ class Schema:
 
     def check_text(self, part, kind):
         if self.kind_of(self.resolve(kind)) != "string":
-            raise SchemaError(part.place, f"`{part.name}` is no text")
+            raise SchemaError(part.place, f"`{part.name}` is not a text")
 
     def check_pairs(self, struct):
-        """The pairs stand in the schema's order: so each struct has one spelling."""
+        """The pairs stand in the schema's order, so each struct has one spelling."""
         for field in struct.fields:
             if field.optional and self.is_proved:
                 raise SchemaError(field.place, f"a list of pairs has all of its fields here: `{field.name}` is optional")
@@ -325,7 +325,7 @@ class Schema:
             raise SchemaError(place, f"names in the data are up to 40 printable characters of ASCII here, without \" and \\: {key!r}")
 
     def check_members(self, one, members, data, check):
-        """Checks the members of an enum or a union, whose data is of the name: each by itself too."""
+        """Checks the members of an enum or a union, whose data has this name: each by itself too."""
         names, seen = {}, {}
         if not members:
             raise SchemaError(one.place, f"`{one.name}` has no members")
@@ -370,7 +370,7 @@ class Schema:
             self.check_row(union)
 
     def check_row(self, union):
-        """The members are read as one row: of all their fields, which may be absent, behind the field that tells the member."""
+        """The members are read as one row: first the field that tells the member, and then all their fields, which may be absent."""
         seen, first = {}, None
         for case in union.cases:
             struct = self.case_struct(case)
@@ -379,7 +379,7 @@ class Schema:
                 raise SchemaError(case.place, f"the members of an inline union are all open or none: `{first.name}` and `{struct.name}`")
             for field in struct.fields:
                 if field.implicit is not None:
-                    raise SchemaError(case.place, f"`{struct.name}` has a field that means a value where it is left out, and is a member of an inline union: `{field.name}`")
+                    raise SchemaError(case.place, f"`{struct.name}` has a field with an implicit value, and is a member of an inline union: `{field.name}`")
                 other = seen.setdefault(field.key, field)
                 if unplaced(self.resolve(field.type)) != unplaced(self.resolve(other.type)):
                     raise SchemaError(
@@ -392,7 +392,7 @@ class Schema:
             )
 
     def row_of(self, union):
-        """The fields of an inline union's members, each key once, with whether all members that have it are open."""
+        """The fields of an inline union's members, each key once, and if all members that have it are open."""
         seen = {}
         for case in union.cases:
             for field in self.case_struct(case).fields:
@@ -400,19 +400,19 @@ class Schema:
         return list(seen.values())
 
     def has_one_type(self, union, key):
-        """Whether the key is of one type in all members of an inline union that have it."""
+        """Returns true if the key has the same type in all members of an inline union that have it."""
         fields = [field for case in union.cases for field in self.case_struct(case).fields if field.key == key]
         return len({unplaced(self.resolve(field.type)) for field in fields}) == 1
 
     def check_envelope(self, union):
-        """In Rattle the tag stands before the content, in the order of their keys, so that it tells what to read."""
+        """In Rattle the tag comes before the content, in the order of their keys, so that it tells how to read the content."""
         tag, content = union.discriminant, union.content
         for key in (tag, content):
             self.check_key(key, union.place)
         if tag == content or self.is_proved and (len(tag), tag) > (len(content), content):
             raise SchemaError(
                 union.place,
-                f"the tag of `{union.name}` stands behind its content, which it is to tell: in the order of keys `{content}` comes"
+                f"the tag of `{union.name}` comes after its content, and has to tell what that is: in the order of keys `{content}` comes"
                 f" {'before' if tag != content else 'with'} `{tag}`",
             )
 
@@ -422,12 +422,12 @@ class Schema:
             raise SchemaError(case.place, f"the kind {case.data} is not supported: the members of a kinded union are {', '.join(kinds)}")
         kind = self.resolve(case.type)
         if self.kind_of(kind) != case.data:
-            raise SchemaError(case.place, f"`{case.name}` is no {case.data}")
+            raise SchemaError(case.place, f"the kind of `{case.name}` is not {case.data}")
         if self.is_proved and isinstance(kind, Int) and kind.width not in (DEFAULT_WIDTH, "i128"):
-            raise SchemaError(case.place, "an int of a kinded union is any of the data model's: it is kept as i128")
+            raise SchemaError(case.place, "an int of a kinded union is any int of the data model: it is kept as i128")
 
     def kind_of(self, kind):
-        """The kind of all data of a type; none where it has several."""
+        """The kind of all data of a type, or None if it has several."""
         if isinstance(kind, Named):
             return KIND_OF.get(self.by_name[kind.name].representation)
         return KIND_OF.get(kind.kind if isinstance(kind, Leaf) else type(kind))
@@ -435,16 +435,16 @@ class Schema:
     # -- recursion
 
     def refuse_endless(self):
-        """Refuses a type of which each value holds another, so that none is finite."""
+        """Refuses a type if each of its values holds another value of it, so that none is finite."""
         finite = set()
         while new := {one.name for one in self.definitions if one.name not in finite and is_finite(one, finite)}:
             finite |= new
         for definition in self.definitions:
             if definition.name not in finite:
-                raise SchemaError(definition.place, f"`{definition.name}` has no finite value: each holds another")
+                raise SchemaError(definition.place, f"`{definition.name}` has no finite value: each value holds another")
 
     def held(self, definition):
-        """The definitions that this one names. A link's target is none of them: it is another block."""
+        """The definitions that this one names. A link's target does not count: it is another block."""
         return [self.by_name[name] for kind in held_by(definition) for name in names_in(kind)]
 
     def reached(self, definition):
@@ -457,7 +457,7 @@ class Schema:
         return found
 
     def in_order(self):
-        """The definitions, each behind those that it holds, but for those that hold it: of proved types none does."""
+        """The definitions, each after those that it holds, unless they hold it too: no proved type does."""
         found = {}
 
         def visit(definition, path):
@@ -474,7 +474,7 @@ class Schema:
 
 
 def refuse_circle(definition, path):
-    """Refuses a type that holds itself, by the names that lead to it again."""
+    """Refuses a type that holds itself, with the names that lead back to it."""
     around = path[path.index(definition.name) :] + [definition.name]
     raise SchemaError(
         definition.place,
@@ -484,7 +484,7 @@ def refuse_circle(definition, path):
 
 
 def bounds(width):
-    """The least and the greatest of the integers of a width. Those of 128 bits are all of the data."""
+    """The least and the greatest integer of a width. Integers of 128 bits are all those of the data."""
     bits = int(width[1:])
     if width == "i128":
         return -(2**64), 2**64 - 1
@@ -492,27 +492,27 @@ def bounds(width):
 
 
 def maker_name(one):
-    """Of the method that makes a definition: that of its form and representation, as `struct_map`."""
+    """The name of the method that makes a definition, from its form and representation: for example `struct_map`."""
     return f"{type(one).__name__.lower()}_{getattr(one, 'representation', '')}"
 
 
 def is_a(one, *names):
-    """Whether a definition is of one of these forms and representations."""
+    """Returns true if a definition has one of these forms and representations."""
     return maker_name(one) in names
 
 
 def may_lack(field):
-    """Whether the data may lack the field: it is optional, or means a value where it is left out."""
+    """Returns true if the data may lack the field: it is optional, or has an implicit value."""
     return field.optional or field.implicit is not None
 
 
 def in_groups(struct):
-    """Whether a struct of many fields is read and written in groups."""
+    """Returns true if a struct of many fields is read and written in groups."""
     return struct.representation == "map" and all(field.implicit is None for field in struct.fields)
 
 
 def in_parts(row, most):
-    """A row in as few parts of at most so many as there can be, of one size or of two that differ by one."""
+    """A row in the fewest parts of at most this size: of one size, or of two that differ by one."""
     count = -(-len(row) // most)
     places = [at * len(row) // count for at in range(count + 1)]
     return [row[begin:end] for begin, end in zip(places, places[1:])]
@@ -552,7 +552,7 @@ def held_by(definition):
 
 
 def is_finite(definition, finite):
-    """Whether it has a finite value, where these types have one. A list or a map may be empty, and what is nullable null."""
+    """Returns true if it has a finite value, given types that have one. A list or a map may be empty, and a nullable may be null."""
 
     def has(kind):
         return not isinstance(kind, Named) or kind.name in finite
@@ -563,9 +563,9 @@ def is_finite(definition, finite):
 
 
 def refuse_made_name(name, other, place):
-    """Refuses a type whose name is made of another one, or the other way round."""
+    """Refuses a type whose name is made from another one, or the other way round."""
     if name in (other.name + "View",) or other.name == name + "View":
-        raise SchemaError(place, f"`{name}` and `{other.name}`: what the one is read as has the other's name")
+        raise SchemaError(place, f"`{name}` and `{other.name}`: the type that the one is read as has the other's name")
     for one, part in ((name, other.name), (other.name, name)):
         if re.fullmatch(one + "(Group|Row|Own|Written)[0-9]+", part):
             raise SchemaError(place, f"`{name}` and `{other.name}`: a group of the one may have the other's name")

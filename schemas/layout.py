@@ -1,4 +1,4 @@
-"""The layout of `rt fmt`, of the forms that are made here."""
+"""The layout of `rt fmt` for the forms that are made here."""
 
 import re
 from dataclasses import dataclass
@@ -7,7 +7,7 @@ WIDTH = 100  # of a line
 INSIDE = 60  # of what stands between brackets on one line
 INSIDE_STRUCT = 18  # the same of a struct's fields
 SHORT_IF = 50  # of an `if` with its `else`
-SHORT = 10  # of an item of a list, where several stand in a line
+SHORT = 10  # of an item of a list, if several stand on a line
 
 
 @dataclass
@@ -34,7 +34,7 @@ def flat(node):
 
 
 def lines(node, indent, behind=""):
-    """The lines of a node: in one where it fits, else each item on a line of its own."""
+    """The lines of a node: one if it fits, else one for each item."""
     margin = " " * indent
     if isinstance(node, str) or node.fits(indent, behind):
         return [margin + flat(node) + behind]
@@ -63,7 +63,7 @@ def block_arm(pattern, rows_at, indent):
 
 
 def filled_items(items, indent):
-    """Short items of a list, as many in each line as fit."""
+    """Short items of a list, as many on each line as fit."""
     made, line = [], " " * (indent - 1)
     for item in items:
         if len(line) + len(flat(item)) + 2 >= WIDTH:
@@ -74,7 +74,7 @@ def filled_items(items, indent):
 
 
 def filled(head, words, close):
-    """A `use` of these words: in one line, or as many in each line as fit."""
+    """A `use` of these words: on one line, or as many on each line as fit."""
     one = f"{head}{{{', '.join(words)}}}{close}" if len(words) > 1 else f"{head}{words[0]}{close}"
     if len(one) <= WIDTH - 2 or len(words) == 1:
         return [one]
@@ -84,7 +84,7 @@ def filled(head, words, close):
 
 
 def typed(head, kind, indent, close):
-    """A type behind what names it: where the line is too long, its parameters stand on lines of their own."""
+    """A type after what names it: if the line is too long, each of its parameters has a line of its own."""
     margin = " " * indent
     if len(margin + head + kind + close) <= WIDTH and longest_tuple(kind) <= INSIDE or not (kind.startswith("(") or "<" in kind):
         return [margin + head + kind + close]
@@ -100,7 +100,7 @@ def typed(head, kind, indent, close):
 
 
 def longest_tuple(kind):
-    """How much stands between the parentheses of the longest tuple in a type."""
+    """The size of what stands between the parentheses of the longest tuple in a type."""
     starts, longest = [], 0
     for place, char in enumerate(kind):
         if char == "(":
@@ -122,12 +122,12 @@ def split_parameters(inside):
 
 
 def in_order(words):
-    """Numbers in names by their size: T9 before T18."""
+    """Orders numbers in names by their size: T9 before T18."""
     return sorted(words, key=lambda word: [(part.isdigit(), int(part) if part.isdigit() else part) for part in re.findall(r"[0-9]+|[^0-9]+", word)])
 
 
 def split(head, words, close):
-    """The same of `ghost use` and of imports in specs, which have no second line: several, where one is too long."""
+    """The same for `ghost use` and for imports in specs, which cannot be split over lines: several, if one is too long."""
     made, some = [], []
     for word in words:
         if some and len(f"{head}{{{', '.join(some + [word])}}}{close}") > WIDTH:
@@ -144,7 +144,7 @@ def ghost(name, rows):
 
 
 def impl(head, *items):
-    """An impl of these items, each of its lines. Where its head is long, that is two."""
+    """An impl of these items, given as lines. If its head is long, it takes two lines."""
     head = f"impl{head} {{"
     if len(head) > WIDTH:
         head = head.replace(" for ", "\n    for ")

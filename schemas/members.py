@@ -1,5 +1,5 @@
-"""How the members of an inline union are made of a row of all their fields. The row of a wide union is read in groups, and a member
-first tests the others' fields, a few at once, while its own are still in the groups. So where it gives up, the groups are dropped whole."""
+"""How the members of an inline union are made from a row of all their fields. The row of a wide union is read in groups. A member
+first tests the others' fields, a few at once, while its own are still in the groups: if it gives up, it drops the groups whole."""
 
 from dataclasses import dataclass, replace
 
@@ -8,9 +8,9 @@ from schemas.law import field_name, in_parts
 from schemas.layout import INSIDE_STRUCT, WIDTH, Group, lines, taken
 from schemas.parsing import Field, Struct
 
-MOST_AT_ONCE = 6  # fields of the row, where it is not read in groups
+MOST_AT_ONCE = 6  # fields of the row, if it is not read in groups
 MOST_IN_READ = 5  # fields of a group
-MOST_IN_TEST = 4  # fields, of which it is tested at once whether any is there
+MOST_IN_TEST = 4  # fields that one test covers: whether any of them is there
 
 
 @dataclass
@@ -25,7 +25,7 @@ class Place:
 
 
 def packed(parts, most):
-    """Parts of a row, each with those behind it as long as they are no more together."""
+    """Parts of a row, each joined with those after it as long as they are not larger together."""
     made = []
     for part in parts:
         if made and len(made[-1]) + len(part) <= most:
@@ -63,16 +63,16 @@ class Members:
         return {field.key: field for field in self.schema.case_struct(case).fields}
 
     def is_needed(self, case, one):
-        """Whether a member must have a field of the row."""
+        """Returns true if a member must have a field of the row."""
         field = self.keys(case).get(one.field.key)
         return field is not None and not field.optional
 
     def is_other(self, case, one):
-        """Whether a member must not have a field of the row."""
+        """Returns true if a member must not have a field of the row."""
         return not self.open and one.field.key not in self.keys(case)
 
     def spec(self, case, member):
-        """The lines that make the member of a row."""
+        """The lines that make the member from a row."""
         rows = []
         for one in self.row:
             if self.is_needed(case, one):
@@ -94,7 +94,7 @@ class Members:
         return [f"Omissible({one.local})" for one in self.row]
 
     def shown(self):
-        """What each field means of the parts `v` that were read."""
+        """What each field means in the parts `v` that were read."""
         return [self.module.optional_meaning(one.kind, True, f"v.1{'.1' * place}.0.0") for place, one in enumerate(self.row)]
 
     def made(self, case):
@@ -109,7 +109,7 @@ class Members:
 
 
 class WideMembers(Members):
-    """The same, where the row is read in groups."""
+    """The same, if the row is read in groups."""
 
     is_wide = True
 
@@ -120,14 +120,14 @@ class WideMembers(Members):
         fields = [replace(one.field, name=one.local, optional=True) for one in self.row]
         whole, self.groups = Struct(union.name, fields, "map", self.open, union.place), []
         for some in packed(self.parts, MOST_IN_READ):
-            group = of_fields(module, whole, len(self.groups) + 1, fields[: len(some)], "pub ")  # as all that stands in an impl of `Made`
+            group = of_fields(module, whole, len(self.groups) + 1, fields[: len(some)], "pub ")  # as everything in an impl of `Made`
             self.groups.append((group, some))
             fields = fields[len(some) :]
             for one in some:
                 one.group = group.word
 
     def by_owners(self):
-        """The fields by the members that have them, in parts of a few."""
+        """The fields, grouped by the members that have them, in parts of a few."""
         keys, found = [self.keys(case) for case in self.union.cases], {}
         for field in super().fields():
             found.setdefault(tuple(field.key in some for some in keys), []).append(field)
@@ -141,7 +141,7 @@ class WideMembers(Members):
         return packed([part for part in self.parts if self.is_other(case, part[0])], MOST_IN_TEST)
 
     def needed(self, case):
-        """What a member has of the row and must have."""
+        """What a member takes from the row and must have."""
         return [one for one in self.row if self.is_needed(case, one)]
 
     def spec(self, case, member):
@@ -187,7 +187,7 @@ def given_up(test):
 
 
 def in_rows(head, words, sign, end, indent):
-    """Words with a sign between them: in one line, or each on a line of its own."""
+    """Words with a sign between them: on one line, or each on its own."""
     one = head + f" {sign} ".join(words) + end
     margin = " " * indent + sign + " "
     return [one] if len(one) <= WIDTH else [head + words[0], *(margin + word for word in words[1:-1]), margin + words[-1] + end]

@@ -1,8 +1,8 @@
-"""The DSL of IPLD Schemas (https://ipld.io/docs/schemas/), read into definitions: a scanner and a plain recursive descent.
+"""Reads the DSL of IPLD Schemas (https://ipld.io/docs/schemas/) into definitions: a scanner and a plain recursive descent.
 
-Two notes may stand in a comment behind what they speak of, since the DSL has no words for them: `# as u32` behind a field or a
-named type says in which integers of Rattle its Ints are kept, and `# open` behind `type X struct {` that other keys of the map
-are skipped. Comments above a type or a field go into the code as its text."""
+Two notes may stand in a comment after what they apply to, because the DSL has no words for them. `# as u32` after a field or a
+named type says which integers of Rattle hold its Ints. `# open` after `type X struct {` says that other keys of the map are
+skipped. Comments above a type or a field go into the code as its text."""
 
 import re
 from dataclasses import dataclass, field
@@ -81,7 +81,7 @@ class ListOf:
 class MapOf:
     value: object
     place: Place
-    key: object = None  # None, where keys are String; else the Named enum whose texts they are
+    key: object = None  # None, if keys are String; else the Named enum whose texts they are
 
 
 @dataclass(frozen=True)
@@ -109,7 +109,7 @@ class Field:
     key: str
     place: Place
     text: list
-    implicit: object = None  # None, or the Literal that is meant where the field is left out
+    implicit: object = None  # None, or the Literal that is meant if the field is left out
 
 
 @dataclass(frozen=True)
@@ -129,7 +129,7 @@ class Struct:
     place: Place
     text: list = field(default_factory=list)
     join: str = ""  # of stringjoin: what stands between the fields
-    of_enum: str = ""  # where it is a map whose keys are an enum's texts: that enum
+    of_enum: str = ""  # of a map whose keys are an enum's texts: that enum
 
 
 @dataclass
@@ -217,17 +217,17 @@ class Scanner:
 
 
 def scan_text(line, at, place):
-    """The text between quotation marks that begins here, and where the line goes on behind it."""
+    """The text between quotation marks that begins here, and where the line goes on after it."""
     word, at = "", at + 1
     while at < len(line) and line[at] != '"':
         if line[at] == "\\":
             at += 1
             if at == len(line) or line[at] not in '"\\':
-                raise SchemaError(Place(place.line, at), 'behind \\ stands one of " and \\')
+                raise SchemaError(Place(place.line, at), 'only " or \\ may come after \\')
         word += line[at]
         at += 1
     if at == len(line):
-        raise SchemaError(place, "this text has no end on its line")
+        raise SchemaError(place, "this text does not end on its line")
     return word, at + 1
 
 
@@ -239,7 +239,7 @@ class Parser:
         scanner = Scanner(text)
         self.tokens, self.comments = scanner.tokens, scanner.comments
         self.at = 0
-        self.noted = set()  # the lines whose notes were taken
+        self.noted = set()  # the lines whose notes have been used
 
     # -- tokens
 
@@ -274,17 +274,17 @@ class Parser:
         return self.expect_kind("name", what, ",")
 
     def expect_text(self, what):
-        return self.expect_kind("text", what, ', as "a",')
+        return self.expect_kind("text", what, ', such as "a",')
 
     def until(self, close, part):
-        """The parts that stand before a mark, which is taken too."""
+        """Returns the parts before a mark, and takes the mark too."""
         found = []
         while not self.take_if(close):
             found.append(part())
         return found
 
     def members(self, part):
-        """The parts of an enum or a union, each behind a `|`."""
+        """The parts of an enum or a union, each after a `|`."""
 
         def member():
             self.expect("|")
@@ -304,7 +304,7 @@ class Parser:
         return above
 
     def note(self, line):
-        """The comment behind what stands on the line, and where it begins."""
+        """The comment after what stands on the line, and where the comment begins."""
         text, alone, place = self.comments.get(line, ("", True, None))
         return ("", None) if alone else (text, place)
 
@@ -314,7 +314,7 @@ class Parser:
         if not found:
             return default
         if found.group(1) not in WIDTHS:
-            raise SchemaError(place, f"no integers are kept as {found.group(1)}: one of {', '.join(WIDTHS)}")
+            raise SchemaError(place, f"no integers are kept as {found.group(1)}, but as one of {', '.join(WIDTHS)}")
         self.noted.add(line)
         return found.group(1)
 
@@ -332,7 +332,7 @@ class Parser:
     def refuse_idle_notes(self):
         for line, (text, alone, place) in self.comments.items():
             if not alone and line not in self.noted and re.fullmatch(r"as [ui][0-9]+|open", text):
-                raise SchemaError(place, f"`# {text}` speaks of nothing on this line")
+                raise SchemaError(place, f"`# {text}` applies to nothing on this line")
 
     def definition(self, line):
         name = self.expect_name("the name of a type")
@@ -347,7 +347,7 @@ class Parser:
         return Unit(name.word, self.representation_of(UNITS, name, "null")[0], name.place)
 
     def alias(self, name):
-        """Of another type. A list or map has one representation here, a scalar none."""
+        """A type that refers to others. A list or map has one representation here, a scalar none."""
         self.take_if("=")
         made = Alias(name.word, self.value_type(lower=True), name.place)
         if self.take_if("representation"):
@@ -386,7 +386,7 @@ class Parser:
         if word == "Link":
             return Link("Any", token.place)
         if word == "Float":
-            raise SchemaError(token.place, "floats are left out of this library, as of the data that it reads")
+            raise SchemaError(token.place, "this library has no floats, and neither has the data that it reads")
         if word in ("optional", "nullable"):
             raise SchemaError(token.place, "a field is `optional`, `nullable`, or `optional nullable`, before its type")
         if word in ("Null", "Unit"):
@@ -414,7 +414,7 @@ class Parser:
         token = self.peek()
         if not self.take_if("representation"):
             if default is None:
-                raise SchemaError(token.place, f"the representation of the union `{name.word}` is wanted: {', '.join(known)}")
+                raise SchemaError(token.place, f"the union `{name.word}` needs a representation: {', '.join(known)}")
             return default, {}
         token = self.expect_name("a representation")
         if token.word not in known:
@@ -422,18 +422,18 @@ class Parser:
         return token.word, self.options(token, known[token.word])
 
     def options(self, representation, wanted):
-        """The texts behind a representation, as `{ discriminantKey "tag" }`."""
+        """The texts after a representation, such as `{ discriminantKey "tag" }`."""
         found = {}
         brace = self.take_if("{")
         while brace and not self.take_if("}"):
             token = self.expect_name("an option")
             if token.word not in wanted:
-                raise SchemaError(token.place, f"`{token.word}` is no option of {representation.word} here"
-                                  + (': a field is renamed by `(rename "a")` behind its type' if token.word == "fields" else ""))
+                raise SchemaError(token.place, f"`{token.word}` is not an option of {representation.word} here"
+                                  + (': a field is renamed by `(rename "a")` after its type' if token.word == "fields" else ""))
             found[token.word] = self.expect_text(f"the text of {token.word}").word
         for word in wanted:
             if word not in found:
-                raise SchemaError(representation.place, f'{representation.word} wants `{{ {word} "a" }}` behind it')
+                raise SchemaError(representation.place, f'{representation.word} needs `{{ {word} "a" }}` after it')
         return found
 
     def field(self):
@@ -483,7 +483,7 @@ class Parser:
         if representation == "string":
             return data.word if data else token.word
         if data is None:
-            raise SchemaError(token.place, f'the number of `{token.word}` is wanted, as `| {token.word} ("1")`')
+            raise SchemaError(token.place, f'`{token.word}` needs a number, such as `| {token.word} ("1")`')
         if not re.fullmatch(r"0|-?[1-9][0-9]*", data.word) or not -(2**64) <= int(data.word) < 2**64:
             raise SchemaError(data.place, f'"{data.word}" is not supported: a number of the data, from -2^64 to 2^64 - 1')
         return int(data.word)
@@ -496,14 +496,14 @@ class Parser:
         cases = []
         for place, held, data in rows:
             if data.kind != ("name" if representation == "kinded" else "text"):
-                raise unwanted(data, {"kinded": "a kind", "stringprefix": 'a prefix, as "a:",'}.get(representation, 'a key, as "a",'))
+                raise unwanted(data, {"kinded": "a kind", "stringprefix": 'a prefix, such as "a:",'}.get(representation, 'a key, such as "a",'))
             cases.append(Case(case_name(held), held, data.word, place))
         tag, content = (options.get(word, "") for word in ("discriminantKey", "contentKey"))
         return Union(name.word, cases, representation, name.place, discriminant=tag, content=content)
 
 
 def case_name(held):
-    """The name of a union's variant: that of the type that it holds."""
+    """The name of a union's variant: the name of the type that it holds."""
     if isinstance(held, Named):
         return held.name
     if isinstance(held, Leaf):
@@ -512,13 +512,13 @@ def case_name(held):
         return "Int"
     if isinstance(held, Link):
         return "Link"
-    raise SchemaError(held.place, "a union holds types that have names: name this one by `type`")
+    raise SchemaError(held.place, "the members of a union have names: define this type by `type`")
 
 
 def unwanted(token, what, form=","):
-    """The refusal of a token in place of what is wanted, and how that is written."""
+    """The refusal of a token, which says what is wanted in its place and how that is written."""
     told = {"text": f'the text "{token.word}"', "end": token.word}.get(token.kind, f"`{token.word}`")
-    return SchemaError(token.place, f"{what} is wanted here{form} and not {told}")
+    return SchemaError(token.place, f"{what} is expected here{form} and not {told}")
 
 
 def parse(text):

@@ -1,4 +1,4 @@
-"""The file of Python that is made of a schema: dataclasses and enums over the package `dagcbor`, with `from_block` and `to_block`."""
+"""The file of Python that is made from a schema: dataclasses and enums over the package `dagcbor`, with `from_block` and `to_block`."""
 
 import json
 import keyword
@@ -7,7 +7,7 @@ from schemas.law import bounds, is_a, snake
 from schemas.language import WAYS, WIDTH, Language, named, named_blocks, power_of_two
 from schemas.parsing import WIDTHS, Alias, Enum, Member, Struct, Union, Unit
 
-# Names of fields that would stand for a type in the annotations behind them, or for a method or what makes one.
+# Names of fields that would replace a type in the annotations after them, or a method, or the function that makes one.
 RESERVED = {"bool", "bytes", "dict", "from_block", "int", "list", "staticmethod", "str", "to_block"}
 
 DATACLASS = ["@dataclass(kw_only=True, slots=True)"]
@@ -21,7 +21,7 @@ IMPORTS = (
 )
 PACKAGE = ("CID", "DagCborError", "dumps", "loads")
 
-# Names that the types and functions use, in their order, and what stands for each.
+# Names that the types and functions use, in their order, and what defines each.
 FRONT = '''
 _Block: TypeAlias = bytes | bytearray | memoryview
 
@@ -316,7 +316,7 @@ class Python(Language):
         return f"list[{item}]"
 
     def alias(self, one, kinds):
-        """A name of other types, in quotation marks where these may come after it."""
+        """A name of other types, in quotation marks if these may come after it."""
         mark = '"' if one.name in self.schema.recursive else ""
         line = f"{one.name}: TypeAlias = {mark}{' | '.join(kinds)}{mark}"
         if len(line) <= WIDTH:
@@ -368,7 +368,7 @@ class Python(Language):
         return [*self.block_functions(one), *made] if isinstance(one, (Alias, Union)) else made
 
     def block_functions(self, one):
-        """Those of a type that has no class: of another one's name, or a union."""
+        """The functions of a type that has no class: an alias, or a union."""
         word, kind = snake(one.name), one.name
         read, write = (self.conversion(named(one), way) for way in WAYS)
         return [
@@ -385,7 +385,7 @@ class Python(Language):
         return [f"    return {struct.name}(", *rows, "    )"] if rows else [f"    return {struct.name}()"]
 
     def part_of(self, word, field, key):
-        """For fields that may be left out there are other helpers: None stands for that, or Absent where None is a value."""
+        """Fields that may be left out have other helpers: None stands for a field that is left out, or Absent if None is a value."""
         part = super().part_of(word, field, key)
         if field.optional:
             part.function = "_omissible" if self.has_null(field.type) else "_optional"
@@ -403,7 +403,7 @@ class Python(Language):
         return [*rows, "    return entries"]
 
     def read_tuple(self, struct):
-        """Where some may be left out, the items are entries of their places."""
+        """If some may be left out, the items become entries by their places."""
         if not any(field.optional for field in struct.fields):
             return super().read_tuple(struct)
         parts = [self.part_of("field", field, str(place)) for place, field in enumerate(struct.fields)]
@@ -426,7 +426,7 @@ class Python(Language):
         return self.statement("_optional(", ["entries", self.quoted(field.key), "at", self.conversion(field.type, "read")], ")", 3)
 
     def kind_patterns(self, union):
-        """A bool is an int to Python, so that it comes first, or is left out."""
+        """A bool is an int to Python, so it comes first, or is excluded."""
         has_bool = any(case.data == "bool" for case in union.cases)
         for case in sorted(union.cases, key=lambda case: case.data != "bool"):
             kind = self.case_kind(case)
@@ -435,7 +435,7 @@ class Python(Language):
             yield kind, pattern + guard, " | ".join(f"{name}()" for name in self.classes(kind)) + guard
 
     def classes(self, kind):
-        """The classes of the values of a type that is of one kind."""
+        """The classes of the values of a type that has one kind."""
         kind = self.schema.resolve(kind)
         one = self.schema.named(kind)
         if isinstance(one, Union):
@@ -453,7 +453,7 @@ def case_class(union, case):
 
 
 def member_name(enum, member):
-    """Its name, or that and a _, where it would stand for the class in the annotations behind it."""
+    """Its name, with a _ added if it would replace the class in the annotations after it."""
     return member.name + "_" if keyword.iskeyword(member.name) or member.name == enum.name else member.name
 
 

@@ -1,4 +1,4 @@
-"""The files of Rattle that are made of a schema: the types with their impls, and what a tree shows to each."""
+"""The files of Rattle that are made from a schema: the types with their impls, and what a tree shows to each type."""
 
 import re
 from typing import NamedTuple
@@ -12,7 +12,7 @@ from schemas.written import all_groups, entry, written_groups
 
 
 class Scalar(NamedTuple):
-    """A scalar: in code, what it is read as, its shape, and of a value its tree and what it means."""
+    """A scalar: its code, what it is read as, its shape, and, for a value, its tree and its meaning."""
 
     code: str
     view: str
@@ -28,12 +28,12 @@ SCALARS = {
     "Link": Scalar("Cid", "List ℕ", "leaf view_link", "Some (link (cid_bytes {}))", "cid_bytes {}"),
 }
 
-# The other types: in code, what they are read as, and their shapes. A leaf is Any.
+# The other types: their code, what they are read as, and their shapes. A leaf is Any.
 CODE = {Leaf: "Ipld", ListOf: "Vec<{}>", MapOf: "BTreeMap<String, {}>", Nullable: "Option<{}>"}
 VIEWS = {Leaf: "Tree", ListOf: "List {}", MapOf: "List (List ℕ × {})", Nullable: "Option {}"}
 SHAPES = {Leaf: "any_tree", ListOf: "list_of (all_of {})", MapOf: "map_of {}", Nullable: "option_of {}"}
 
-# Where each word of the specs stands.
+# Where each word of the specs comes from.
 LIBRARY = "Rattle.serde_ipld_dagcbor.specs."
 WORDS = {
     "Rattle.std.specs.Prelude": "◌≡◌ ℕ ℤ ◌^◌ Bool ◌||◌ List [] ◌∷◌ Option Some None is_some option_map if◌then◌else◌ codes pos neg_ℤ string_bytes nat_eq true false refl",
@@ -58,7 +58,7 @@ WORDS = {
     "Rattle.types_schema.specs.WrittenGroups": "field_before optional_before none_before",
 }
 
-# Where each word of the code stands.
+# Where each word of the code comes from.
 HOMES = {
     "types_schema": """ByKind Enveloped InGroups Made NoKind Numbered OneGroup OptionalPart Part WrittenGroup of_name read_enveloped
         read_made read_numbered unless_meant write_parts""",
@@ -94,12 +94,12 @@ DE = "de: &mut Deserializer<'de, R>"
 
 
 def wrapped(text):
-    """In parentheses, where it is more than a word."""
+    """In parentheses, if it is more than a word."""
     return f"({text})" if " " in text else text
 
 
 class Module:
-    """What is made of one schema, as a module of a crate."""
+    """What is made from one schema, as a module of a crate."""
 
     def __init__(self, schema, crate, name):
         self.schema, self.crate, self.name = schema, crate, name
@@ -108,7 +108,7 @@ class Module:
         self.types = [one for one in self.definitions if not isinstance(one, Alias)]
         structs = [one for one in self.types if isinstance(one, Struct)]
         implied = [kind for one in structs for field, kind in self.fields(one) if field.implicit is not None]
-        self.implied = {kind.name for kind in implied if isinstance(kind, Named)}  # the enums of which a member is meant somewhere
+        self.implied = {kind.name for kind in implied if isinstance(kind, Named)}  # the enums with a member that some field implies
 
     def fields(self, struct):
         """The fields of a struct, with their resolved types."""
@@ -127,7 +127,7 @@ class Module:
     # ---- a type of a value: in code, in ghost lines, in specs
 
     def scalar(self, kind):
-        """The forms of a scalar. None of Any, and of what is no scalar."""
+        """The forms of a scalar, or None for Any and for what is not a scalar."""
         if isinstance(kind, Int):
             bits = int(kind.width[1:])
             if kind.width[0] == "u":
@@ -136,7 +136,7 @@ class Module:
         return SCALARS.get("Link" if isinstance(kind, Link) else getattr(kind, "kind", None))
 
     def code(self, kind, aliases=False):
-        """In code. With aliases it is a type as the schema has it, and else a resolved one."""
+        """Its code. With aliases it is a type as the schema has it, and otherwise a resolved one."""
         if isinstance(kind, Named):
             return kind.name
         scalar = self.scalar(kind)
@@ -155,11 +155,11 @@ class Module:
         return scalar.view if scalar else VIEWS[type(kind)].format(*(wrapped(self.view(part)) for part in parts(kind)))
 
     def optional_view(self, kind, may_lack):
-        """The same, of what may be left out."""
+        """The same for what may be left out."""
         return f"Option {wrapped(self.view(kind))}" if may_lack else self.view(kind)
 
     def shape(self, kind):
-        """What a tree shows to it."""
+        """What a tree shows to the type."""
         if isinstance(kind, Named):
             return f"{snake(kind.name)}_shape"
         scalar = self.scalar(kind)
@@ -185,13 +185,13 @@ class Module:
         return f"⟦<{self.code(kind)} as Shown>⟧.meaning {value}"
 
     def optional_meaning(self, kind, may_lack, value):
-        """The same, of what may be left out."""
+        """The same for what may be left out."""
         return self.meaning(Nullable(kind, kind.place) if may_lack else kind, value)
 
     # ---- imports
 
     def imports(self, text, ghost):
-        """The lines that import the words of the text: in code as `ghost use`, in specs as `use`."""
+        """The lines that import the words of the text: in code by `ghost use`, in specs by `use`."""
         head, close = ("ghost use ", ";") if ghost else ("use ", "")
         text = re.sub(r'"[^"]*"|kinds\.\w+', "", text)
         words = set(text.translate(PUNCTUATION).split())
@@ -256,7 +256,7 @@ class Module:
 
     @staticmethod
     def finished_spec(name, view, row, shape, of_row):
-        """A shape that is finished: what is read first, the shape of that, and what is made of it."""
+        """A shape that is finished: what is read first, the shape of that, and what is made from it."""
         return [
             [f"abbrev pub {name}_row : Type 0", *row],
             [f"abbrev pub {name}_row_shape : Shape Tree {name}_row", *shape],
@@ -294,7 +294,7 @@ class Module:
         return f'{"omissible" if may_lack(field) else "required"}_field (codes "{field.key}") {shape} ('
 
     def struct_of_row(self, struct):
-        """The rows that make a struct of what was read: of pairs with the right names, or with what is meant where a field is left out."""
+        """The rows that make a struct from what was read: from pairs with the right names, or with implicit values of fields left out."""
         made, values = [], []
         for place, (field, kind) in enumerate(self.fields(struct)):
             path, local = "row" + ".1" * place + ".0", local_name(field_name(field.name))
@@ -308,13 +308,13 @@ class Module:
         return [*made, f"    Some {row_of(values)}{')' * len(made)}"]
 
     def writing_takes_memory(self, kind):
-        """Whether writing it may take memory, where the writer takes none."""
+        """Returns true if writing it may take memory, if the writer takes none."""
         one = self.schema.named(kind)
         is_map = isinstance(kind, MapOf) or is_a(one, "struct_map", "union_envelope")
         return is_map or is_leaf(kind, "Any") or any(map(self.writing_takes_memory, held_by(one) if one else parts(kind)))
 
     def reading_takes_memory(self, kind):
-        """Whether reading it may take memory, as far as the specs say."""
+        """Returns true if reading it may take memory, as far as the specs say."""
         return not (isinstance(kind, (Int, Link)) or is_leaf(kind, "Bool") or is_a(self.schema.named(kind), "enum_int"))
 
     def enum_spec(self, enum):
@@ -367,7 +367,7 @@ class Module:
         return [[f"pub data {view} : Type 0 where", *rows], *forms.get(union.representation, self.told_spec)(union)]
 
     def told_spec(self, union):
-        """A union whose members are told by a name or a tag."""
+        """A union whose members a name or a tag tells."""
         name, view = snake(union.name), view_name(union)
         parts, needs = [], []
         for case, kind in self.cases(union):
@@ -435,7 +435,7 @@ class Module:
 
     @staticmethod
     def ghost_lines(body):
-        """The lines of ghost members, which may be several each, and of contracts."""
+        """The lines of ghost members, each of which may take several, and of contracts."""
         inside = False
         for line in body:
             inside = inside or line.startswith("    ghost ")
@@ -490,7 +490,7 @@ class Module:
         return made + (self.implied_impls(struct) if has_implied(struct) else self.map_read(struct))
 
     def map_read(self, struct):
-        """The impl that reads a struct that is a map, behind the groups in which that is done, if there are several."""
+        """The impl that reads a struct that is a map, after the groups in which it is read, if there are several."""
         read = read_by(struct, "read_struct", [field.key for field in struct.fields], is_row=True)
         end, few, made = end_of(struct), self.schema.row_groups(struct), []
         if len(few) == 1:
@@ -503,18 +503,18 @@ class Module:
         return made + self.deserialize_impl(struct, [*read, *construct("Ok(", struct, ")")])
 
     def entry_tree(self, field, kind, value, forms=("field {} ∷", "optional {} (")):
-        """What a field is in the tree of its map: in the one form, or in the other where it may be absent."""
+        """What a field is in the tree of its map: in the first form, or in the second if it may be absent."""
         held = f"{self.tree_of(kind)} {value}" if may_lack(field) else f"({self.tree(kind, value)})"
         return forms[may_lack(field)].format(f'(codes "{field.key}") {held}')
 
     @staticmethod
     def written_value(field, kind):
-        """In specs, what is written of a field of `v`."""
+        """In specs, what is written for a field of `v`."""
         value = f"v.{field_name(field.name)}"
         return value if field.implicit is None else f"(unless_implied {equal_to(kind, field.implicit.value)} {value})"
 
     def map_written(self, kinds, by_key, groups):
-        """The lines that write a struct that is a map: in groups, if there are any."""
+        """The lines that write a struct that is a map: in groups, if it has any."""
         made = []
         for field, kind in kinds:
             if field.implicit is not None:
@@ -528,12 +528,12 @@ class Module:
 
     @staticmethod
     def unless_implied(field, kind):
-        """What is written of a field that is left out where it is what that means."""
+        """What is written for a field that is left out if it has its implicit value."""
         name = field_name(field.name)
         return lines(Group(f"let {name} = {unless(kind)}(", [f"&self.{name}", meant(kind, field.implicit.value)], ")"), 8, ";")
 
     def implied_impls(self, struct):
-        """A struct that is made of a row in which fields are left out that mean a value then."""
+        """A struct that is made from a row in which fields with implicit values may be left out."""
         kinds, end = self.fields(struct), end_of(struct)
         of = apart(row_patterns(kinds), end, "parts")
         for field, kind in kinds:
@@ -591,7 +591,7 @@ class Module:
     # -- enums
 
     def unless_enum(self, enum):
-        """What is written of a field of the enum that is left out where it is what that means."""
+        """What is written for a field of the enum that is left out if it has its implicit value."""
         if enum.name not in self.implied:
             return []
         name = snake(enum.name)
@@ -600,7 +600,7 @@ class Module:
         return ["", *lines(head, 0), ensures, "{", "    unless_meant(value, meant)", "}"]
 
     def enum_impls(self, enum, tree, write):
-        """The impls that write a member, by what makes its tree, and the call that writes it."""
+        """The impls that write a member: by what makes its tree, and by the call that writes it."""
         trees = [f"{alias(enum)}.{member.name} ↦ Some ({tree.format(member.data)})" for member in enum.members]
         arms = [line for place, member in enumerate(enum.members) for line in arm(f"{enum.name}::{member.name}", write(place, member), 12)]
         return self.written_impls(enum, cases_of(trees), match("self", arms), ["λ v. v"], alloc="_alloc")
@@ -662,7 +662,7 @@ class Module:
     # -- unions
 
     def union_impls(self, union, trees, write):
-        """The impls that write a member, by the trees of the members, and the lines of each one's arm."""
+        """The impls that write a member: by the trees of the members, and by the lines of each member's arm."""
         trees = [f"{alias(union)}.{case.name} x ↦ {tree}" for case, tree in zip(union.cases, trees)]
         arms = [line for place, case in enumerate(union.cases) for line in write(place, case)]
         return self.written_impls(union, cases_of(trees), match("self", arms), self.union_meaning(union))
@@ -702,7 +702,7 @@ class Module:
         return "\n".join(nested("entries_tree (", rows, "[]", 10))
 
     def inline_order(self, union, case):
-        """The fields of a member in the order of their keys, and None for what tells the member."""
+        """The fields of a member in the order of their keys, with None for the entry that tells the member."""
         fields = [*self.fields(self.schema.case_struct(case)), (None, None)]
         return sorted(fields, key=lambda row: key_order(row[0].key if row[0] else union.discriminant))
 
@@ -715,7 +715,7 @@ class Module:
 
     @staticmethod
     def inline_made(union, case, members):
-        """The arm that makes a member of what was read."""
+        """The arm that makes a member from what was read."""
         locals_by_key, words = {one.field.key: one.local for one in members.row}, []
         for key, field in members.keys(case).items():
             word, local = field_name(field.name), locals_by_key[key]
@@ -772,7 +772,7 @@ class Module:
     # -- the forms of an impl
 
     def written_impls(self, one, tree, write, meaning, alloc="alloc"):
-        """The impls that write a type, and say what it means: its tree, and the lines that write it."""
+        """The impls that write a type and say what it means: its tree, and the lines that write it."""
         takes = "true" if self.writing_takes_memory(Named(one.name, one.place)) else "false"
         parameters = ["&self", f"{alloc}: Global", "ser: &mut Serializer<W>"]
         serialize = function("serialize<W: Write>", parameters, "WriteResult<(), W>", write)
@@ -800,7 +800,7 @@ class Module:
         return impl(f"<'de> Enveloped<'de> for {one.name}", *seen_as(one, self.union_meaning(one), "variants"), [tactic, *read])
 
     def made_impls(self, one, parts, parts_meaning, meaning, read, of, seen=None):
-        """The impls that read a type in parts: what those are and mean, and the lines that read them, and make the value of them."""
+        """The impls that read a type in parts: what these are and mean, the lines that read them, and those that make the value."""
         name = snake(one.name)
         view, shape, made = seen or (f"{name}_row", f"{name}_row_shape", f"{name}_of_row")
         return [
@@ -822,7 +822,7 @@ class Module:
     # ---- proofs
 
     def answers(self):
-        """The answers that the search does not find, of each function by the folder of its proof."""
+        """The answers that the search does not find, for each function, by the folder of its proof."""
         answers = {
             "struct_map": [self.implied_answers],
             "struct_listpairs": [self.pairs_answers],
@@ -838,13 +838,13 @@ class Module:
         return made
 
     def file_of(self, one, function, about, uses, rows):
-        """The file of a function's answers, by its folder. None, where there are none."""
+        """The file of a function's answers, by its folder, or None if there are none."""
         place = f"{self.name}.{one.name}{function}"
         head = [f"-- {about}, of {self.file}, by ./dagcbor-types.", *uses, f"use Rattle.{self.crate}.proofs.{place}.Goals as goal"]
         return {place.replace(".", "/"): "\n".join([*head, *rows]) + "\n"} if rows else {}
 
     def implied_answers(self, struct):
-        """What writes a struct in which a field means a value where it is left out."""
+        """The answers for writing a struct in which a field has an implicit value."""
         if not has_implied(struct):
             return {}
         calls = [f"c.{unless(kind)}-{field_name(field.name)}.ensures" for field, kind in self.fields(struct) if field.implicit is not None]
@@ -855,8 +855,8 @@ class Module:
         return self.file_of(struct, "Serialize.serialize", f"What writes {struct.name}", uses, rows)
 
     def arm_answers(self, union):
-        """The arms that write a union that is told by a tag, or a keyed one of which a member is a link or bytes, which the search takes
-        apart, or has a long text."""
+        """The arms that write a union that is told by a tag. Also those of a keyed union with a long text, or with a member that is a
+        link or bytes, which the search takes apart."""
         taken_apart = any(self.code(kind) in ("Cid", "Bytes") for _, kind in self.cases(union))
         is_searched = not taken_apart and all(len(case.data) <= LONG_TEXT for case in union.cases)
         is_keyed = union.representation == "keyed"
@@ -872,7 +872,7 @@ class Module:
         return self.file_of(enum, "Serialize.serialize", f"The arms that write long texts of {enum.name}", [], rows)
 
     def pairs_answers(self, struct):
-        """What a list of pairs with a link makes, which the search takes apart: each pair has its field's name, and holds its value."""
+        """The result of reading a list of pairs with a link, which the search takes apart: each pair has its field's name and its value."""
         kinds = [self.code(kind) for _, kind in self.fields(struct)]
         if len(kinds) < 2 or not any("Cid" in kind for kind in kinds):
             return {}
@@ -889,7 +889,7 @@ class Module:
 
     @staticmethod
     def arm_words(union):
-        """How the prover names the arms of a match on the members' texts. None, where two might have one name."""
+        """The prover's names for the arms of a match on the members' texts, or None if two could have the same name."""
         words, others = [], 0
         for case in union.cases:
             if re.fullmatch(r"[A-Za-z]\w*", case.data, re.ASCII):
@@ -902,8 +902,8 @@ class Module:
         return words if len(set(words)) == len(words) else None
 
     def text_answers(self, union):
-        """Of a union of many fields, or with a list of lists or the like, the arm of other texts than the members': the search unfolds
-        the row first."""
+        """For a union of many fields, or with a list of lists or the like: the arm of texts that are not a member's. The search
+        unfolds the row first."""
         words, members = self.arm_words(union), members_of(self, union)
         if words is None or not (members.is_wide or any(is_deep(one.kind) for one in members.row)):
             return {}
@@ -916,8 +916,8 @@ class Module:
         return self.file_of(union, "Made.of_parts", f"A text that tells no member of {union.name}", uses, rows)
 
     def content_answers(self, union):
-        """What a member holds is refused; of those whose tags are words, or where they are many, also that it is read, and of other tags,
-        where they are many or one has a long row. The search finds the rest."""
+        """The proofs that what a member holds is refused. If its tag is a word, or there are many members, also that it is read. If
+        there are many, or one has a long row, also those of other tags. The search finds the rest."""
         words, tags = self.arm_words(union), [case.data for case in union.cases]
         many = len(union.cases) > SEARCHED_MEMBERS and words is not None
         untold = words is not None and (many or any(map(self.has_long_row, union.cases)))
@@ -952,17 +952,17 @@ class Module:
         return f"{snake(union.name)}_variants (λ x. {case_word(union, case)} x) {shape} g.row.R-Error.Denot _"
 
     def takes_memory(self, union):
-        """Whether reading a member may take memory."""
+        """Returns true if reading a member may take memory."""
         return any(self.reading_takes_memory(kind) for _, kind in self.cases(union))
 
     def content_read(self, union, case, word):
-        """That what a member holds is read."""
+        """The proof that what a member holds is read."""
         head, told = self.member_words(union, case), f'(codes "{case.data}")'
         shown = f"    content_shown {head} _ _ {told} _ _ c.in-{word}.is (λ t. refl) (λ t. refl) sound c.in_ok-x-in-{word}.ensures.value"
         return answer(f"returns-in_ok-x-in-{word}-clause-value", "λ sound.", shown)
 
     def content_refused(self, union, case, word):
-        """That what a member holds is refused."""
+        """The proof that what a member holds is refused."""
         head, told = self.member_words(union, case), f'(codes "{case.data}")'
         behind = residual(union, case, word)
         lacks = "refl" if self.takes_memory(union) else "h"
@@ -973,12 +973,12 @@ class Module:
         return answer(f"returns-in_err-x-in-{word}-clause-value", "λ sound.", handed_on)
 
     def has_long_row(self, case):
-        """Whether the member is an inline union of many fields."""
+        """Returns true if the member is an inline union of many fields."""
         one = self.schema.named(self.schema.resolve(case.type))
         return is_a(one, "union_inline") and len(self.schema.row_of(one)) > LONG_ROW
 
     def variant_answers(self, union):
-        """Of a keyed union, that what a member holds was refused. The search finds the rest."""
+        """For a keyed union, the proof that what a member holds was refused. The search finds the rest."""
         words = self.arm_words(union)
         if words is None:
             return {}
@@ -997,7 +997,7 @@ class Module:
         return self.file_of(union, "Variants.read_variant", f"The members of {union.name} whose values are refused", uses, rows)
 
     def one_member_answers(self, union):
-        """What writes a union of one member, by its name or inside its map: no arm says that the value is that one."""
+        """The answers for writing a union of one member, by its name or inside its map: no arm says that the value is that member."""
         if len(union.cases) != 1:
             return {}
         keyed = union.representation == "keyed"
@@ -1023,7 +1023,7 @@ class Module:
 
     @staticmethod
     def untold_rows(union, words):
-        """That no content is read behind a tag that is no member's."""
+        """The proof that no content is read after a tag that is no member's."""
         name = snake(union.name)
         tests = [f'(k ≡ codes "{tag}" → ⊥)' for tag in words]
         places = " ".join(f"n{place}" for place in range(len(words)))
@@ -1042,7 +1042,7 @@ class Module:
         ]
 
 
-# The kinds of data, as of a kinded union, in the words of specs. With a capital they are the variants of `ByKind`.
+# The kinds of data, as for a kinded union, in the words of specs. With a capital they are the variants of `ByKind`.
 KINDS = {"bool": "bool", "int": "integer", "string": "text", "bytes": "bytes", "list": "list", "map": "map", "link": "link"}
 
 SEARCHED_MEMBERS = 3  # of an envelope: how many arms the search proves
@@ -1061,20 +1061,20 @@ REFUSED = [
     "refused : {E : Type 0} (could L B : Type 0) (r : Reading) (message : Name) (e : DecodeError E) → e ≡ Msg message → (could → ⊥) → Refuses could L B Anything r e r",
     "refused {E} could L B r message e is never = subst (λ x. Refuses {E = E} could L B Anything r x r) (sym is) (refl, never, λ b l. tt)",
 ]
-SEARCHED_FIELDS = 6  # of a struct where some mean a value: how many the search proves well formed
-LONG_ROW = 5  # an inline member's: of a longer one the search does not find other tags refused
-LONG_TEXT = 7  # a member's: of a longer one the search does not find what writes it
+SEARCHED_FIELDS = 6  # of a struct with implicit fields: how many the search proves well formed
+LONG_ROW = 5  # an inline member's row: if it is longer, the search does not find that other tags are refused
+LONG_TEXT = 7  # a member's text: if it is longer, the search does not find what writes it
 
 
 def is_deep(kind):
-    """Whether it has a list or a map of what is nullable, a list or a map."""
+    """Returns true if it has a list or a map of nullables, lists or maps."""
     inner = parts(kind)
     holds = isinstance(kind, (ListOf, MapOf)) and any(isinstance(part, (ListOf, MapOf, Nullable)) for part in inner)
     return holds or any(map(is_deep, inner))
 
 
 def is_made(struct):
-    """Whether the struct is made of a row that is read in another form."""
+    """Returns true if the struct is made from a row that is read in another form."""
     return has_implied(struct) or struct.representation == "listpairs"
 
 
@@ -1083,19 +1083,19 @@ def has_implied(struct):
 
 
 def meant(kind, value):
-    """In code, a value that is meant where its field is left out."""
+    """In code, the implicit value of a field."""
     if isinstance(value, Member):
         return f"{kind.name}::{value.name}"
     return str(value).lower() if isinstance(value, bool) else str(value)
 
 
 def unless(kind):
-    """The function that leaves out what is meant."""
+    """The function that leaves out the implicit value."""
     return f"{snake(kind.name)}_unless" if isinstance(kind, Named) else "unless_meant"
 
 
 def equal_to(kind, value):
-    """In specs, the equality of a type, and a value that is meant."""
+    """In specs, the equality of a type, and an implicit value."""
     if isinstance(value, Member):
         return f"{snake(kind.name)}_eq in_{snake(kind.name)}.{value.name}"
     if not isinstance(kind, Int):
@@ -1106,7 +1106,7 @@ def equal_to(kind, value):
 
 
 def applied(head, words):
-    """A type of these parameters, in as many lines as it takes."""
+    """A type with these parameters, on as many lines as it takes."""
     made, line = [], head
     for word in words:
         if len(f"{line} {word}") > WIDTH:
@@ -1139,7 +1139,7 @@ def local_name(word):
 
 
 def in_order_of(unit, this, other):
-    """What stands for true, and for false: this, where it is the unit's value."""
+    """What stands for true, and for false: this, if it is the unit's value."""
     return (this, other) if unit.representation == "true" else (other, this)
 
 
@@ -1148,7 +1148,7 @@ def key_order(key):
 
 
 def nested(head, rows, end, indent=8):
-    """A row of parts, of which some open a parenthesis, as the head does: these are closed at the end."""
+    """A row of parts, some of which open a parenthesis, as does the head. The end closes them all."""
     if not rows:
         return [f"{head}{end})"]
     *before, last = (" " * indent + row for row in rows)
@@ -1162,12 +1162,12 @@ def shape_rows(head, steps, end):
 
 
 def choice(rows):
-    """A choice in specs by tests, each with what is where it holds. What is else stands behind it."""
+    """A choice in specs by tests, each with its result. The result for all else comes after it."""
     return [f"    {'else ' if place else ''}if {test} then {made}" for place, (test, made) in enumerate(rows)]
 
 
 def answer(goal, first, *others):
-    """The answer of a goal, where it is one of a row."""
+    """The answer of a goal, if it is one of a row."""
     return ["", f"pub {goal} : goal.{goal}", f"{goal} g c = {first}".rstrip(), *others]
 
 
@@ -1181,7 +1181,7 @@ def arm_rows(members, some, call):
 
 
 def residual(union, case, word):
-    """How the prover names what a member's error is made by: that of the first has no word behind it."""
+    """The prover's name for what makes a member's error: that of the first has no word after it."""
     return "" if case is union.cases[0] else f"-in_err-x-in-{word}"
 
 
@@ -1195,7 +1195,7 @@ def text_arm(text, *rows):
 
 
 def told_arms(union, value, read):
-    """A `match` on what tells the member, of which each arm makes one of what is read."""
+    """A `match` on what tells the member. Each arm makes a member from what is read."""
     arms = []
     for case in union.cases:
         arms += text_arm(case.data, f"                let x = {read};", *lines(made_case("Ok(", union, case), 16))
@@ -1203,12 +1203,12 @@ def told_arms(union, value, read):
 
 
 def made_case(head, union, case):
-    """A member of `x`, in what is called with it."""
+    """A member of `x`, in a call with it."""
     return Group(head, [Group(f"{union.name}::{case.name}(", ["x"], ")")], ")", WIDTH)
 
 
 def struct_of(before, name, words, behind):
-    """A struct that is made of its fields, and what stands around it."""
+    """A struct that is made from its fields, and what stands around it."""
     return Group(f"{before}{name} {{", words, f"}}{behind}", INSIDE_STRUCT) if words else f"{before}{name} {{}}{behind}"
 
 
@@ -1222,7 +1222,7 @@ def read_by(one, call, names, is_row=False):
 
 
 def construct(before, struct, behind):
-    """The lines that make a struct of variables that have its fields' names."""
+    """The lines that make a struct from variables that have its fields' names."""
     return lines(struct_of(before, struct.name, [field_name(field.name) for field in struct.fields], behind), 8)
 
 
@@ -1241,22 +1241,22 @@ def tagged_row(case, parts, indent):
 
 
 def end_of(struct):
-    """What stands behind the last field of a row: nothing, where other keys are skipped."""
+    """What stands after the last field of a row: nothing, if other keys are skipped."""
     return "()" if struct.open else "Closed"
 
 
 def row_patterns(kinds):
-    """The patterns of the fields in a row, each with place for the rest."""
+    """The patterns of the fields in a row, each with a place for the rest."""
     return [f"({form(field)}({field_name(field.name)}), {{}})" for field, _ in kinds]
 
 
 def item_patterns(struct):
-    """The same of the items of a list."""
+    """The same for the items of a list."""
     return [f"{'OmissibleItem' * field.optional}({field_name(field.name)}, {{}})" for field in struct.fields]
 
 
 def apart(patterns, end, row="row"):
-    """The lines that take a row apart, which has its end behind the last of these."""
+    """The lines that take a row apart, whose end comes after the last of these."""
     made = []
     for place, pattern in enumerate(patterns):
         rest = "row" if place < len(patterns) - 1 else end
@@ -1282,7 +1282,7 @@ def cases_of(rows):
 
 
 def view_rows(view, shown):
-    """What a row of values is read as: in one line where it fits."""
+    """What a row of values is read as: on one line if it fits."""
     if not shown:
         return [f"{view} = Unit {{0}}"]
     rows = [f"{row} × (" for row in shown[:-1]]

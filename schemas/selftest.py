@@ -1,15 +1,15 @@
 #!/usr/bin/env python3
-"""What `dagcbor-types` refuses, by line and column, and what it reads of the DSL.
+"""Tests what `dagcbor-types` refuses, by line and column, and what it reads of the DSL.
 
-    python3 -m schemas.selftest                   at the top of the repository; ends in a line `N passed, M failed`
-    python3 -m schemas.selftest prove 30 [FIRST]  makes 30 schemas at random, from seed FIRST on, and has `rt` prove what the tool
-                                                  makes of each, and lay it out, in a copy: a line for five, which are modules of
-                                                  one crate. It takes an hour or two
-    python3 -m schemas.selftest draw 7            prints the schema of a seed
-    python3 -m schemas.selftest layout 200 [FIRST]  has `rt fmt` lay out what is made of so many, and tells what it changes: a second each
-    python3 -m schemas.selftest wrong             writes specs of a schema that was edited beside the code of the schema as it was,
-                                                  edit by edit, and has `rt` refuse each: a line for each, some ten minutes"""
-
+    python3 -m schemas.selftest                     runs at the top of the repository, and ends in a line `N passed, M failed`
+    python3 -m schemas.selftest prove 30 [FIRST]    makes 30 schemas at random, from seed FIRST on. For each, `rt` proves and lays
+                                                    out what the tool makes, in a copy. A line stands for five schemas, which are
+                                                    modules of one crate. It takes an hour or two
+    python3 -m schemas.selftest draw 7              prints the schema of a seed
+    python3 -m schemas.selftest layout 200 [FIRST]  has `rt fmt` lay out what is made of 200 schemas, and says what it changes.
+                                                    Each schema takes a second
+    python3 -m schemas.selftest wrong               edits a schema, puts the specs of the edited schema beside the code of the
+                                                    unedited one, and has `rt` refuse them: a line for each edit, some ten minutes"""
 import pathlib
 import re
 import shutil
@@ -26,39 +26,39 @@ from schemas.law import Schema
 from schemas.parsing import Field, SchemaError, parse
 from schemas.rattle import Module
 
-# A schema, and how it is refused: line:column: a part of the message.
+# A schema, and its refusal: line:column: a part of the message.
 REFUSED = [
     ("type A struct {\n  x Foo\n}", "2:5: unknown type `Foo`"),
     ("type A struct {\n  x [nullable Foo]\n}", "2:15: unknown type `Foo`"),
     ("type A struct {\n  x &Foo\n}", "2:5: unknown type `Foo`"),
-    ("type A struct {\n  x Float\n}", "2:5: floats are left out"),
-    ("type A float", "1:8: floats are left out"),
+    ("type A struct {\n  x Float\n}", "2:5: this library has no floats"),
+    ("type A float", "1:8: this library has no floats"),
     ("type A struct {\n  kids [A]\n}", "1:6: `A` holds itself (A -> A)"),
     ("type A struct {\n  b optional B\n}\ntype B {String:nullable C}\ntype C union {\n | A \"a\"\n} representation keyed", "1:6: `A` holds itself (A -> B -> C -> A)"),
     ("type A = A", "1:6: `A` holds itself"),
-    ("type A struct { x Int } representation stringjoin", "1:40: stringjoin wants `{ join \"a\" }` behind it"),
+    ("type A struct { x Int } representation stringjoin", "1:40: stringjoin needs `{ join \"a\" }` after it"),
     ("type A struct {\n  x optional Int\n} representation listpairs", "2:3: a list of pairs has all of its fields here: `x` is optional"),
     ("type A struct {\n  a Int\n  b Int\n  c Int\n  d Int\n} representation listpairs", "5:3: a list of pairs has at most 3 fields here"),
     ("type A {String:Int} representation stringpairs", "1:36: the representation stringpairs of `A` is not supported"),
-    ("type A union {\n  | Int \"i\"\n} representation envelope", "3:18: envelope wants `{ discriminantKey \"a\" }` behind it"),
-    ("type A union {\n  | Int \"i\"\n} representation inline", "3:18: inline wants `{ discriminantKey \"a\" }` behind it"),
+    ("type A union {\n  | Int \"i\"\n} representation envelope", "3:18: envelope needs `{ discriminantKey \"a\" }` after it"),
+    ("type A union {\n  | Int \"i\"\n} representation inline", "3:18: inline needs `{ discriminantKey \"a\" }` after it"),
     ("type A union {\n  | Int \"i\"\n} representation stringprefix", "1:6: stringprefix is not supported yet: `A`"),
     ("type A union {\n  | Int \"i\"\n} representation bytesprefix", "3:18: the representation bytesprefix of `A` is not supported"),
-    ("type A union {\n  | Int \"i\"\n}", "3:2: the representation of the union `A` is wanted"),
-    ("type A union {\n  | B list\n} representation kinded\ntype B {String:Int}", "2:5: `B` is no list"),
-    ("type A union {\n  | B map\n} representation kinded\ntype B struct {\n  x Int\n} representation tuple", "2:5: `B` is no map"),
-    ("type A union {\n  | Any map\n} representation kinded", "2:5: `Any` is no map"),
+    ("type A union {\n  | Int \"i\"\n}", "3:2: the union `A` needs a representation"),
+    ("type A union {\n  | B list\n} representation kinded\ntype B {String:Int}", "2:5: the kind of `B` is not list"),
+    ("type A union {\n  | B map\n} representation kinded\ntype B struct {\n  x Int\n} representation tuple", "2:5: the kind of `B` is not map"),
+    ("type A union {\n  | Any map\n} representation kinded", "2:5: the kind of `Any` is not map"),
     ("type A union {\n  | B null\n} representation kinded\ntype B unit", "2:5: the kind null is not supported"),
-    ("type A union {\n  | Int \"i\"\n} representation envelope {\n  discriminantKey \"type\"\n  contentKey \"data\"\n}", "1:6: the tag of `A` stands behind its content"),
-    ("type A union {\n  | Int \"i\"\n} representation envelope {\n  discriminantKey \"t\"\n}", "3:18: envelope wants `{ contentKey \"a\" }` behind it"),
-    ("type A union {\n  | String bytes\n} representation kinded", "2:5: `String` is no bytes"),
+    ("type A union {\n  | Int \"i\"\n} representation envelope {\n  discriminantKey \"type\"\n  contentKey \"data\"\n}", "1:6: the tag of `A` comes after its content"),
+    ("type A union {\n  | Int \"i\"\n} representation envelope {\n  discriminantKey \"t\"\n}", "3:18: envelope needs `{ contentKey \"a\" }` after it"),
+    ("type A union {\n  | String bytes\n} representation kinded", "2:5: the kind of `String` is not bytes"),
     ("type A union {\n  | B int\n} representation kinded\ntype B int # as u8", "2:5: an int of a kinded union"),
     ("type A union {\n  | Int \"a\"\n  | Bool \"a\"\n} representation keyed", "3:5: two members have the key `a`: this and line 2"),
     ("type A union {\n  | &Any \"a\"\n  | &Any \"b\"\n} representation keyed", "3:5: two members have the name `link`"),
-    ("type A union {\n  | [Int] \"a\"\n} representation keyed", "2:5: a union holds types that have names"),
-    ("type A union {\n  | Int int\n} representation keyed", "2:9: a key, as \"a\", is wanted here, and not `int`"),
+    ("type A union {\n  | [Int] \"a\"\n} representation keyed", "2:5: the members of a union have names"),
+    ("type A union {\n  | Int int\n} representation keyed", "2:9: a key, such as \"a\", is expected here, and not `int`"),
     ("type A enum {\n  | B (\"x\")\n  | C (\"x\")\n}", "3:5: two members have the representation `x`"),
-    ("type A enum {\n  | B\n} representation int", "2:5: the number of `B` is wanted"),
+    ("type A enum {\n  | B\n} representation int", "2:5: `B` needs a number"),
     ("type A enum {\n  | B (\"-1\")\n} representation int", "2:5: -1 is not supported: a number from 0"),
     ("type A enum {\n  | B (\"-18446744073709551617\")\n} representation int", "2:8: \"-18446744073709551617\" is not supported"),
     ("type A enum {\n  | B (\"18446744073709551616\")\n} representation int", "2:8: \"18446744073709551616\" is not supported"),
@@ -66,29 +66,29 @@ REFUSED = [
     ("type A struct {\n  x Int\n  x String\n}", "3:3: two fields have the name `x`: this and line 2"),
     ("type A struct {\n  fooBar Int\n  foo_bar String\n}", "3:3: two fields have the name `foo_bar`"),
     ("type A struct {\n  x Int\n  y String (rename \"x\")\n}", "3:3: two fields have the key `x`"),
-    ("type A struct {\n  x Int (implicit 256) # as u8\n}", "2:19: 256 is no u8: `x`"),
-    ("type A struct {\n  x String (implicit true)\n}", "2:22: a field that means a value where it is left out is a Bool, an Int or of an enum here: `x`"),
-    ("type A struct {\n  x String (implicit \"a\")\n}", "2:22: a field that means a value where it is left out is a Bool, an Int or of an enum here: `x`"),
-    ("type A struct {\n  x nullable Int (implicit 0)\n}", "2:28: a field that means a value where it is left out is a Bool, an Int or of an enum here: `x`"),
-    ("type A struct {\n  x B (implicit \"D\")\n}\ntype B enum {\n  | C\n}", "2:17: D is no member of `B`: `x`"),
-    ("type A struct {\n  x Int (implicit -129) # as i8\n}", "2:19: -129 is no i8: `x`"),
-    ("type A struct {\n  x optional Int (implicit 0)\n}", "2:28: `x` is optional: what is left out means no value"),
-    ("type A struct {\n  x Int (implicit 0)\n} representation tuple", "2:19: a field of a tuple means nothing where it is left out: `x`"),
-    ("type A union {\n  | B \"b\"\n} representation inline {\n  discriminantKey \"t\"\n}\ntype B struct {\n  x Int (implicit 0)\n}", "2:5: `B` has a field that means a value where it is left out, and is a member of an inline union: `x`"),
-    ("type A struct {\n  x Int (rename \"\\u00e9\")\n}", "2:18: behind \\"),
+    ("type A struct {\n  x Int (implicit 256) # as u8\n}", "2:19: 256 is not a value of u8: `x`"),
+    ("type A struct {\n  x String (implicit true)\n}", "2:22: the type of a field with an implicit value is a Bool, an Int or an enum here: `x`"),
+    ("type A struct {\n  x String (implicit \"a\")\n}", "2:22: the type of a field with an implicit value is a Bool, an Int or an enum here: `x`"),
+    ("type A struct {\n  x nullable Int (implicit 0)\n}", "2:28: the type of a field with an implicit value is a Bool, an Int or an enum here: `x`"),
+    ("type A struct {\n  x B (implicit \"D\")\n}\ntype B enum {\n  | C\n}", "2:17: D is not a member of `B`: `x`"),
+    ("type A struct {\n  x Int (implicit -129) # as i8\n}", "2:19: -129 is not a value of i8: `x`"),
+    ("type A struct {\n  x optional Int (implicit 0)\n}", "2:28: `x` is optional, and so cannot have an implicit value"),
+    ("type A struct {\n  x Int (implicit 0)\n} representation tuple", "2:19: a field of a tuple cannot have an implicit value: `x`"),
+    ("type A union {\n  | B \"b\"\n} representation inline {\n  discriminantKey \"t\"\n}\ntype B struct {\n  x Int (implicit 0)\n}", "2:5: `B` has a field with an implicit value, and is a member of an inline union: `x`"),
+    ("type A struct {\n  x Int (rename \"\\u00e9\")\n}", "2:18: only \" or \\"),
     ("type A struct {\n  x Int (rename \"é\")\n}", "2:3: names in the data are up to 40 printable characters"),
-    ("type A struct {\n  a optional Int\n  b Int\n} representation tuple", "3:3: behind `a`, which is optional, each field of a tuple is: `b`"),
+    ("type A struct {\n  a optional Int\n  b Int\n} representation tuple", "3:3: after `a`, which is optional, each field of a tuple is too: `b`"),
     ("type A struct {\n  _a Int\n}", "2:3: a field's name begins with a letter"),
     ("type R int", "1:6: `R` is a name of"),
-    ("type A struct {\n" + "".join(f"  f{i} Int\n" for i in range(15)) + "} representation tuple", "16:3: a struct that is a tuple, or of which a field means"),
-    ("type A struct {\n" + "".join(f"  f{i} Int (implicit 0)\n" for i in range(15)) + "}", "16:3: a struct that is a tuple, or of which a field means"),
+    ("type A struct {\n" + "".join(f"  f{i} Int\n" for i in range(15)) + "} representation tuple", "16:3: a struct that is a tuple, or has a field with an implicit value"),
+    ("type A struct {\n" + "".join(f"  f{i} Int (implicit 0)\n" for i in range(15)) + "}", "16:3: a struct that is a tuple, or has a field with an implicit value"),
     ("type A struct {\n" + "".join(f"  f{i} [{{String:Int}}]\n" for i in range(6)) + "} representation tuple", "7:3: `A` is more than the prover takes at once"),
     ("type A struct {\n  x Int\n  y " + "[" * 16 + "Int" + "]" * 16 + "\n}", "3:3: `A` is more than the prover takes at once"),
     ("type A struct {\n" + "".join(f"  f{i} Int\n" for i in range(15)) + "}\ntype AGroup1 int", "18:6: `AGroup1` and `A`: a group of the one may have the other's name"),
     ("type A struct {\n" + "".join(f"  f{i} Int\n" for i in range(15)) + "}\ntype AWritten1 int", "18:6: `AWritten1` and `A`: a group of the one may have the other's name"),
     ("type WrittenGroup int", "1:6: `WrittenGroup` is a name of"),
-    ("type A struct {\n  m {B:Int}\n}\ntype B enum {\n  | C\n}", "2:6: a map whose keys are an enum's has a name of its own"),
-    ("type A {B:Int}\ntype B int", "1:9: keys are String, or of an enum of texts, and not `B`"),
+    ("type A struct {\n  m {B:Int}\n}\ntype B enum {\n  | C\n}", "2:6: a map with an enum's keys needs a name of its own"),
+    ("type A {B:Int}\ntype B int", "1:9: a key's type is String or an enum of texts, and not `B`"),
     ("type A union {\n  | B \"b\"\n} representation inline {\n  discriminantKey \"t\"\n}\ntype B int", "2:5: a member of an inline union is a struct that is a map"),
     ("type A union {\n  | B \"b\"\n} representation inline {\n  discriminantKey \"t\"\n}\ntype B struct {\n  t Int\n}", "2:5: `B` has a field `t`, which tells the members of `A`"),
     ("type A union {\n  | B \"b\"\n  | C \"c\"\n} representation inline {\n  discriminantKey \"t\"\n}\ntype B struct {\n  x Int\n}\ntype C struct {\n  x [Int]\n}", "3:5: the key `x` is of two types in the members of `A`"),
@@ -96,17 +96,17 @@ REFUSED = [
     ("type A struct {\n  a nullable optional Int\n}", "2:14: a field is `optional`, `nullable`, or"),
     ("type A {Int:String}", "1:9: unknown type `Int`"),
     ("type A struct {\n  x Int # as u7\n}", "2:9: no integers are kept as u7"),
-    ("type A struct {\n  x String # as u8\n}", "2:12: `# as u8` speaks of nothing on this line"),
-    ("type A enum { # open\n | B\n}", "1:15: `# open` speaks of nothing"),
+    ("type A struct {\n  x String # as u8\n}", "2:12: `# as u8` applies to nothing on this line"),
+    ("type A enum { # open\n | B\n}", "1:15: `# open` applies to nothing"),
     ("type Option struct {}", "1:6: `Option` is a name of"),
     ("type foo int", "1:6: a type's name is a capital"),
-    ("type Foo int\ntype FOO int", "2:6: `FOO` and `Foo` (line 1) are one name in lower case"),
+    ("type Foo int\ntype FOO int", "2:6: `FOO` and `Foo` (line 1) are the same name in lower case"),
     ("type Foo int\ntype FooView int", "2:6: `FooView` and `Foo`"),
     ("type A unit representation null", "none"),
     ("advanced ROT13", "1:1: advanced data layouts are not supported"),
-    ("type A struct {\n  x Int", "2:8: the name of a field is wanted here, and not the end of the file"),
-    ("type A \"a\"", "1:8: a type is wanted here, and not the text \"a\""),
-    ("type A struct {\n  x \"Int\n}", "2:5: this text has no end on its line"),
+    ("type A struct {\n  x Int", "2:8: the name of a field is expected here, and not the end of the file"),
+    ("type A \"a\"", "1:8: a type is expected here, and not the text \"a\""),
+    ("type A struct {\n  x \"Int\n}", "2:5: this text does not end on its line"),
     ("type A struct {\n  x Int;\n}", "2:8: no word begins with ';'"),
 ]
 
@@ -129,7 +129,7 @@ type C struct {
   c3 Int
 }"""
 
-# A schema, and a line that stands in the code that is made of it.
+# A schema, and a line of the code that is made from it.
 MADE = [
     (WIDE_UNION, "                let others = group2.c1.is_some() | group2.c2.is_some() | group2.c3.is_some();"),
     (WIDE_UNION, "    type Parts = (Required<String>, (AGroup1, (AGroup2, Closed)));"),
@@ -250,7 +250,7 @@ UNPROVED = [
     'type A union {\n  | B "b"\n} representation inline {\n  discriminantKey "t"\n}\ntype B struct {\n' + "".join(f"  f{i} Int\n" for i in range(14)) + "}",
 ]
 
-# A language, a schema, and a line that stands in what is made of it.
+# A language, a schema, and a line of what is made from it.
 MADE_IN = [
     ("python", "type A struct {\n  createdAt optional nullable [Int] # as u8\n}", "    created_at: list[int] | None | Absent = Absent.ABSENT"),
     ("python", "type A struct {\n  x optional Any\n}", "    x: Any | Absent = Absent.ABSENT"),
@@ -329,9 +329,9 @@ REFUSED_IN = [
     ("python", "type A = B\ntype B = A", "1:6: `A` has no finite value"),
     ("python", "type A struct {\n  x A\n}", "1:6: `A` has no finite value"),
     ("typescript", 'type A union {\n  | B "b"\n} representation keyed\ntype B struct {\n  x A\n  y Int\n}', "1:6: `A` has no finite value"),
-    ("python", 'type A union {\n  | Int "i"\n} representation envelope {\n  discriminantKey "t"\n  contentKey "t"\n}', "1:6: the tag of `A` stands behind its content"),
+    ("python", 'type A union {\n  | Int "i"\n} representation envelope {\n  discriminantKey "t"\n  contentKey "t"\n}', "1:6: the tag of `A` comes after its content"),
     ("python", TEXTS.replace('"b:"', '"s:b"'), "3:5: the prefix `s:b` begins with `s:`, which is another's"),
-    ("typescript", TEXTS.replace("x String", "x Int"), "6:3: `x` is no text"),
+    ("typescript", TEXTS.replace("x String", "x Int"), "6:3: `x` is not a text"),
     ("python", TEXTS.replace("y C", "y A"), "1:6: `A` is a text that holds itself"),
     ("typescript", TEXTS.replace("x String", "x optional String"), "6:3: a field of a stringjoin is always there"),
     ("python", TEXTS.replace('"/"', '""'), "5:6: a stringjoin has fields, a text between them"),
@@ -341,14 +341,14 @@ REFUSED_IN = [
     ("python", "type AInt int\ntype A union {\n  | Int \"i\"\n} representation keyed", "2:6: two types have the name `AInt`: this and line 1"),
     ("typescript", "type A union {\n  | B list\n  | C map\n} representation kinded\ntype B struct {} representation tuple\ntype C struct {}", "3:5: a kinded union of `B` and `C`"),
     ("typescript", "type Data struct {}", "1:6: `Data` is a name that the made TypeScript uses"),
-    ("typescript", "type A struct {\n  x Int (rename \"__proto__\")\n}", "2:3: no field is named __proto__"),
+    ("typescript", "type A struct {\n  x Int (rename \"__proto__\")\n}", "2:3: no field can be named __proto__"),
     ("typescript", "type A struct {\n  toString Int\n  toString_ Int\n}", "3:3: two fields have the name `toString_`"),
 ]
 
 
 @dataclass
 class Wider(Field):
-    """A field of which more is said."""
+    """A field with one more attribute."""
 
     also: str = "a"
 
@@ -365,7 +365,7 @@ def with_more(one):
 
 
 def more_is_told(make):
-    """What is told where something that a wider parser may say is not refused."""
+    """Returns what is wrong if something that a wider parser may say is not refused."""
     for change, wanted in ((with_another, "the representation another of `A`"), (with_more, "`also` of `y`")):
         schema = Schema(parse("type A struct {\n  x Int\n}"))
         change(schema.definitions[0])
@@ -384,7 +384,7 @@ def refusal_by(make):
 
 
 def made_in(language, text):
-    """What is made of a schema: in Rattle it is to be proved."""
+    """What is made from a schema: in Rattle it is to be proved."""
     schema = Schema(parse(text), is_proved=language == "rattle")
     if language == "rattle":
         return Module(schema, "trial", "trial").source()
@@ -392,12 +392,12 @@ def made_in(language, text):
 
 
 def in_all(of_rattle, of_others):
-    """The tests of Rattle, and those of other languages, which begin with its name."""
+    """The tests of Rattle, with its name put first, and those of other languages, which have a name first already."""
     return [*(("rattle", *row) for row in of_rattle), *of_others]
 
 
 def failures():
-    """Of each test, what is told of it where it fails, and else None."""
+    """Yields None for each test that passes, and for any other what is wrong."""
     for language, text, wanted in in_all(REFUSED, REFUSED_IN):
         found = refusal_by(lambda: made_in(language, text))
         is_wanted = wanted in found and found.startswith(wanted.split(" ")[0])
@@ -416,7 +416,7 @@ def failures():
 
 
 def left_alone():
-    """Of another language each schema's file is by itself: those that stand in the folder stay, also of no UTF-8."""
+    """In a folder of another language each schema's file is by itself: those that are there stay, even if they are not UTF-8."""
     with tempfile.TemporaryDirectory() as name:
         folder = pathlib.Path(name)
         (folder / "other.py").write_bytes(b"# by ./dagcbor-types \xff\n")
@@ -431,7 +431,7 @@ def left_alone():
 
 
 def judge(results):
-    """Prints what is told of each test, where anything is: of how many it is one, and whether these passed. Then ends."""
+    """Prints what is told of each result, if anything: it counts a number of tests, and they passed or not. Then it ends."""
     counts = {True: 0, False: 0}
     for count, passed, told in results:
         counts[passed] += count
@@ -458,7 +458,7 @@ def below(names, table):
 
 
 def copied(folder):
-    """The crates that made types stand on, with what was kept of their proofs."""
+    """Copies the crates that made types stand on, with what is kept of their proofs."""
     table = (ROOT / "crates.txt").read_text(encoding="utf-8")
     names = below(STANDS_ON.split(), table)
     (folder / "crates").mkdir()
@@ -475,7 +475,7 @@ def ran(*command, folder):
 
 
 def batches(seeds):
-    """The seeds in batches, each for one crate: no two schemas of it have a type of one name."""
+    """The seeds in batches, each for one crate: no two schemas of a batch have a type of the same name."""
     made, names = [], []
     for seed in seeds:
         found = {one.name for one in Schema(parse(drawn(seed))).definitions}
@@ -491,7 +491,7 @@ def batches(seeds):
 
 
 def judged(batch, folder, table):
-    """What becomes of the schemas of these seeds, as modules of one crate: a line, and the log where it fails."""
+    """Returns what becomes of the schemas of these seeds, as modules of one crate: a line, and the log if it fails."""
     crate = folder / "crates" / f"drawn_{batch[0]}"
     sources = [folder / f"seed_{seed}.ipldsch" for seed in batch]
     for seed, source in zip(batch, sources):
@@ -508,12 +508,12 @@ def judged(batch, folder, table):
     others = laid_out(crate, made)
     shutil.rmtree(crate)
     if others:
-        return f"proved, and laid out by rt fmt as another: {others}", log
+        return f"proved, and laid out by rt fmt in another way: {others}", log
     return f"proved, {functions[1]} functions, {took}", None
 
 
 def laid_out(crate, made):
-    """What `rt fmt` makes another of these files, or what it says where it fails."""
+    """Returns which of these files `rt fmt` lays out differently, or what it says if it fails."""
     status, log = ran("rt", "fmt", folder=crate)
     return (log or "rt fmt failed") if status else " ".join(path.name for path, text in made.items() if path.read_text(encoding="utf-8") != text)
 
@@ -528,10 +528,10 @@ def layout(count, first):
             crate, made = files_of([source], folder / "crates" / f"drawn_{seed}")
             write((crate, made), check=False)
             others = laid_out(crate, made)
-            yield 1, not others, f"seed {seed}: laid out by rt fmt as another: {others}" if others else None
+            yield 1, not others, f"seed {seed}: laid out by rt fmt in another way: {others}" if others else None
 
 
-# A schema, and edits of it: what is edited, a line of it, and what stands there in its place.
+# A schema, and edits of it: the edit's name, a line of the schema, and the line that takes its place.
 EDITED = """type Format enum {
   | Vinyl
   | Tape ("tape")
@@ -567,7 +567,7 @@ EDITS = [
 
 
 def wrong():
-    """The code is the schema's as it was, and the specs are those of the edited one."""
+    """The code is that of the schema as it was, and the specs are those of the edited one."""
     with tempfile.TemporaryDirectory() as name:
         folder = pathlib.Path(name)
         table = copied(folder)

@@ -1,4 +1,4 @@
-"""The file of TypeScript that is made of a schema: types over the package `dagcbor`, each with an object of its name that has
+"""The file of TypeScript that is made from a schema: types over the package `dagcbor`. Each type has an object of its name, with
 `decode` and `encode`."""
 
 import json
@@ -7,12 +7,12 @@ from schemas.law import bounds, is_a, may_lack
 from schemas.language import WAYS, WIDTH, Language, camel, named, named_blocks, power_of_two
 from schemas.parsing import WIDTHS, Alias, Enum, Int, Member, SchemaError, Struct, Union, Unit
 
-NARROW = ("u8", "u16", "u32", "i8", "i16", "i32")  # the widths that are kept as a number, and not as a bigint
+NARROW = ("u8", "u16", "u32", "i8", "i16", "i32")  # the widths that are kept as a number, not as a bigint
 
-# Names that every object has: as those of a field they would be there where it is left out.
+# Names that every object has. A field with such a name would seem to be there if it is left out.
 RESERVED = set("constructor hasOwnProperty isPrototypeOf propertyIsEnumerable toLocaleString toString valueOf".split())
 
-# Helpers whose names end so.
+# Helpers whose names end in this.
 OF_VALUES = ("entry", "fields", "items", "pair", "pairs", "pieces")
 
 PACKAGE = ("CID", "DagCborError", "decode", "encode")
@@ -293,7 +293,7 @@ class TypeScript(Language):
     def check_field(self, field):
         for name in (field.name, field.key):
             if name == "__proto__":
-                raise SchemaError(field.place, "no field is named __proto__ in TypeScript, where it is another thing")
+                raise SchemaError(field.place, "no field can be named __proto__ in TypeScript, which uses the name itself")
 
     def helper(self, word):
         return camel(word) + ("Of" if word in OF_VALUES else "")
@@ -413,18 +413,18 @@ class TypeScript(Language):
         return self.both(enum, self.replaced(data, pairs), write)
 
     def replaced(self, value, pairs):
-        """A choice that makes the other one of a pair."""
+        """A choice that makes one of each pair from the other."""
         arms = [(one, [self.row(f"return {other}", 3)]) for one, other in pairs]
         return self.choice(value, arms, self.no_member)
 
     def unit(self, unit):
-        """One function, since the value stands for itself."""
+        """One function, because the value stands for itself."""
         return [self.converter("read", unit, unit.name, [self.row(f"return unit({unit.representation}, value, at)")])]
 
     # -- unions
 
     def property_name(self, key):
-        """A key in an object that is spelled out."""
+        """A key in an object that is written out."""
         if key == "__proto__":
             return f"[{self.quoted(key)}]"
         return key if key.isascii() and key.isidentifier() else self.quoted(key)
@@ -444,16 +444,16 @@ class TypeScript(Language):
             self.check_kinds(node)
 
     def check_kinds(self, union):
-        """Refuses members whose values are of one kind, so that none could be told from the other."""
+        """Refuses members whose values have the same kind, because nothing would tell them apart."""
         seen = {}
         for case in union.cases:
             held = self.held_kind(self.case_kind(case), case.data)
             if held in seen:
-                self.refuse(case.place, f"a kinded union of `{seen[held]}` and `{case.name}`, which are one kind of value,")
+                self.refuse(case.place, f"a kinded union of `{seen[held]}` and `{case.name}`, whose values have the same kind,")
             seen[held] = case.name
 
     def held_kind(self, kind, data):
-        """The kind of the values of a type, whose data is of a kind: a tuple's is an object, an enum's its name."""
+        """The kind of a type's values, given the kind of its data: a tuple's value is an object, and an enum's is its name."""
         one = self.schema.named(self.schema.resolve(kind))
         if isinstance(one, (Struct, Union)):
             return "map"
@@ -484,7 +484,7 @@ def said(text, indent):
 
 
 def made_object(kind, parts, optional, name):
-    """An object of these parts, and of those that may be left out, which are put into a variable of this name."""
+    """An object of these parts, and of those that may be left out. These are put into a variable of this name."""
     if not optional:
         return ["  return {", *parts, "  };"] if parts else ["  return {};"]
     start = [f"  const {name}: {kind} = {{", *parts, "  };"] if parts else [f"  const {name}: {kind} = {{}};"]

@@ -1,15 +1,15 @@
-"""What is written of a struct of many fields: a row of groups, each with a name, so that no function sees the types of all."""
+"""How a struct of many fields is written: as a row of groups, each with a name, so that no function sees the types of all fields."""
 
 from schemas.law import MOST_FIELDS, field_name, in_parts, may_lack
 from schemas.layout import Group, function, ghost, impl, lines, typed
 
 
-# What a field is in the map, before those behind it.
+# What a field is in the map, before the fields after it.
 BEFORE = ("field_before {} (", "optional_before {} (")
 
 
 def entry(field, value):
-    """What is written of a field of a map."""
+    """What is written for a field of a map."""
     return Group(f"{entry_form(field)}(", [f'"{field.key}"', f"&{value}"], ")")
 
 
@@ -58,7 +58,7 @@ def all_groups(groups):
 
 
 def halved(rows, joined):
-    """The two halves of a row, joined, and those of each."""
+    """The two halves of a row, joined, and the same for each half."""
     middle = len(rows) // 2
     return joined([halved(part, joined) for part in (rows[:middle], rows[middle:])]) if middle else rows[0]
 

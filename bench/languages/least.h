@@ -25,7 +25,7 @@ static double now(void) {
 
 static void check(Block *it) { it->is_good &= dagcbor_check(it->bytes, it->length) >= 0; }
 
-/* The time of one of so many calls. */
+/* The time of one of this many calls. */
 static double time_of(Call call, Block *block, long calls) {
     double start = now();
     for (long i = 0; i < calls; i++) call(block);

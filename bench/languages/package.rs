@@ -1,4 +1,4 @@
-//! The package for Rust beside serde_cbor: package SHAPE CALL TIMES makes so many calls of `to_vec` or
+//! The package for Rust beside serde_cbor: package SHAPE CALL TIMES makes TIMES calls of `to_vec` or
 //! `from_slice`, ours or theirs, or of none. What is read is let go.
 
 use serde::{de::DeserializeOwned, Deserialize, Serialize};

@@ -1,4 +1,5 @@
-// Does one call of fxamacker/cbor so many times over the block on standard input, and prints how many of them succeeded.
+// Does one call of fxamacker/cbor this many times on the block on standard input, and prints how many of them
+// succeeded.
 package main
 
 import (

@@ -1,4 +1,4 @@
-//! Does one call of serde_cbor so many times over the block on standard input, and prints how many of them succeeded.
+//! Does one call of serde_cbor this many times on the block on standard input, and prints how many of them succeeded.
 
 use serde::de::{Deserialize, DeserializeOwned, Deserializer, Error, IgnoredAny, Visitor};
 use serde::ser::{Serialize, Serializer};
@@ -9,7 +9,7 @@ use std::fmt;
 use std::hint::black_box;
 use std::io::{self, Read};
 
-/// The bytes behind the tag of a link.
+/// The bytes after the tag of a link.
 struct Link(Vec<u8>);
 
 struct LinkVisitor;

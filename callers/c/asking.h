@@ -12,8 +12,8 @@ typedef struct {
     size_t length;
 } Lent;
 
-/* What a call is given: bytes, and of a record its key, or of an event what is known. And what it answers: a number,
-   bytes, which the caller frees, and of a text a place. */
+/* What a call is given: bytes, and for a record its key, or for an event what is known. And what it
+   returns: a number, bytes, which the caller frees, and for a text a place. */
 typedef struct {
     Lent bytes, key, root, rev;
     int32_t code;
@@ -36,7 +36,7 @@ ASKS(event_of, dagcbor_verify_event, it->root.at, it->root.length, it->rev.at, i
 ASKS(json_of, dagcbor_to_json, out, room, needed)
 ASKS(block_of, dagcbor_from_json, out, room, needed, &it->place)
 
-/* Asks, and where the answer has no room again: it is told how much is needed. */
+/* Asks, and asks again if the answer has no room: the call says how much it needs. */
 static inline void ask(Question *it, Call *call) {
     size_t room = it->bytes.length + 1024;
     do {

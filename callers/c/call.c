@@ -1,6 +1,6 @@
-/* Calls each export for each row of its table, but dagcbor_car_next, which walk.c has: call TABLE
- * SECTIONS TEXTS HEADERS SPANS PATHS SEGMENTS NODES MODELS. Prints the number of rows, or the row
- * that is answered otherwise. */
+/* Calls each export for each row of its table, except dagcbor_car_next, which walk.c has: call
+ * TABLE SECTIONS TEXTS HEADERS SPANS PATHS SEGMENTS NODES MODELS. Prints the number of rows, or the
+ * row that gets another answer. */
 #include "rows.h"
 #include <inttypes.h>
 #include <stdbool.h>
@@ -71,7 +71,7 @@ static int is_right_compact_tape(const uint8_t *bytes, size_t length, int check,
     return tape[count].kind == 0xeeeeeeee;
 }
 
-/* Of a block the tokens are those of its tape. Of refused bytes they stand before the place. */
+/* For a block the tokens are those of its tape. For refused bytes they stand before the place. */
 static int are_right_tokens(const uint8_t *bytes, size_t length, int check, char *const field[8]) {
     static dagcbor_token wanted[MOST], tape[MOST];
     size_t count = from_tape(field[check < 0 ? 7 : 5], wanted), needed = 99, place = 99;
@@ -103,7 +103,7 @@ static int is_right_block(char *const field[8]) {
     return memcmp(name, wanted_name, 36) == 0;
 }
 
-/* As far as a path leads, and whether all of it does. Of what is refused the places stay. */
+/* As far as a path leads, and if all of it does. After a refusal the places stay. */
 static int is_right_path(char *const field[6]) {
     static uint8_t block[MOST], path[MOST];
     size_t length = from_hex(field[0], block, 0), path_length = from_hex(field[1], path, 0);
@@ -119,7 +119,7 @@ static int is_right_path(char *const field[6]) {
     return place == wanted[0] && end == wanted[1];
 }
 
-/* A call for each segment, in the bytes of the item to which those before it lead. Where one leads
+/* A call for each segment, in the bytes of the item to which those before it lead. If one leads
  * nowhere, or is refused, the places stay. */
 static int are_right_segments(char *const field[5]) {
     static uint8_t block[MOST], text[MOST];
@@ -138,8 +138,8 @@ static int are_right_segments(char *const field[5]) {
     return begin == strtoull(field[3], NULL, 10) && end == strtoull(field[4], NULL, 10);
 }
 
-/* Where no section begins the bytes, the places stay. Of the name and the block of one the same is
- * said. */
+/* If no section begins the bytes, the places stay. For the name and the block of a section the
+ * verdict is the same. */
 static int is_right_section(char *const field[3]) {
     static uint8_t bytes[MOST];
     size_t length = from_hex(field[0], bytes, 0), places[] = {99, 98, 97, 96};
@@ -157,11 +157,11 @@ static int is_right_section(char *const field[3]) {
            dagcbor_verify(cid, size - 1, block, count) == DAGCBOR_INVALID_CID;
 }
 
-/* The place that is to be told beside what is put, and whether it was each time. */
+/* The place that is to be told beside what is put, and if it was each time. */
 static size_t told_place;
 static bool are_places;
 
-/* Where a header ends is told beside its roots; where none begins the bytes it stays. */
+/* The end of a header is told beside its roots; if no header begins the bytes it stays. */
 static int32_t roots_of(const uint8_t *bytes, size_t length, uint8_t *out, size_t room,
                         size_t *needed) {
     size_t end = 99;
@@ -180,7 +180,7 @@ static int is_right_header(char *const field[4]) {
     return puts_in_room(roots_of, bytes, length, code, code, roots, count) && are_places;
 }
 
-/* Where the front of the file says nothing, the places stay. */
+/* If the front of the file says nothing, the places stay. */
 static int is_right_span(char *const field[3]) {
     static uint8_t bytes[MOST];
     size_t length = from_hex(field[0], bytes, 0);
@@ -191,7 +191,8 @@ static int is_right_span(char *const field[3]) {
     return memcmp(places, wanted, sizeof wanted) == 0;
 }
 
-/* A text is read as its CID, which is written, and so is no front of it. */
+/* A text is read as its CID, and the CID is written as its text. The CID without its last byte is
+ * refused. */
 static int is_right_text(char *const field[4]) {
     static uint8_t cid[MOST];
     size_t length = strcmp(field[0], "-") ? strlen(field[0]) : 0, count = from_hex(field[2], cid, 0);

@@ -1,6 +1,6 @@
-/* A CAR file (of version 1 or 2), gone through as its bytes come, and the names in it.
-   Not proved, and no part of the library: what the bytes are says dagcbor_car_next, and nothing of
-   a file is parsed here. It is for one thread at a time, and takes its memory by malloc. */
+/* Reads a CAR file (of version 1 or 2) as its bytes come, and keeps the names in it. Not proved,
+   and no part of the library: dagcbor_car_next says what the bytes are, and nothing of a file is
+   parsed here. It is for one thread at a time, and takes its memory by malloc. */
 #ifndef DAGCBOR_CAR_H
 #define DAGCBOR_CAR_H
 
@@ -23,7 +23,7 @@ static inline void bytes_free(Bytes *bytes) {
     *bytes = (Bytes){NULL, 0, 0};
 }
 
-/* Room for so many bytes more; NULL where there is no memory. */
+/* Room for this many bytes more; NULL if out of memory. */
 static inline uint8_t *bytes_room(Bytes *bytes, size_t count) {
     if (count > bytes->size - bytes->used) {
         if (count > SIZE_MAX / 4 - bytes->used) return NULL;
@@ -46,12 +46,12 @@ static inline bool bytes_add(Bytes *bytes, const uint8_t *more, size_t count) {
     return true;
 }
 
-/* What the program computes SHA-256 by, in the place of the library: whether that of the block is the
- * digest; below 0 where it fails. */
+/* What the program computes SHA-256 with, in place of the library. Above 0 if the block has the
+ * digest, 0 if it does not, and below 0 if the call fails. */
 typedef int Digest(void *host, const uint8_t *block, size_t length, const uint8_t digest[32]);
 
-/* The file. What is at hand of it are `length` bytes at `bytes`, the first of which stands at
- * `place` in the file. They lie in `gathered`, unless they were lent. */
+/* The file. At hand are `length` of its bytes at `bytes`, the first of which stands at `place` in
+ * the file. They lie in `gathered`, unless they were lent. */
 typedef struct {
     const uint8_t *bytes;
     size_t length;
@@ -92,8 +92,8 @@ static inline void car_pass(Car *car) {
     car->place += count;
 }
 
-/* Takes bytes that follow. What is at hand stays at the front of what was gathered, where there is
- * room for twice as many once it grows: nothing is reserved from what a file says. */
+/* Takes bytes that follow. What is at hand stays at the front of what was gathered. When that grows
+ * it gets twice the room: nothing is reserved from what a file says. */
 static inline bool car_gather(Car *car, const uint8_t *more, size_t count) {
     Bytes *all = &car->gathered;
     car_pass(car);
@@ -108,8 +108,8 @@ static inline bool car_gather(Car *car, const uint8_t *more, size_t count) {
     return true;
 }
 
-/* What comes next. Its places are counted from the bytes at hand, where they stay until the next
- * call. At most so many of these are looked at. */
+/* Returns what comes next. Its places are counted from the bytes at hand, where they stay until the
+ * next call. It looks at no more of them than this limit. */
 static inline int32_t car_next(Car *car, size_t most, uint32_t how, size_t places[3]) {
     car_pass(car);
     car->before = car->walk;
@@ -118,8 +118,7 @@ static inline int32_t car_next(Car *car, size_t most, uint32_t how, size_t place
     return dagcbor_car_next(&car->walk, car->bytes, looked, how, places);
 }
 
-/* What was answered last did not serve, for want of memory or as the host failed: it is to come
- * again. */
+/* The last answer was of no use, because memory ran out or the host failed: it is to come again. */
 static inline int32_t car_back(Car *car, int32_t why) {
     car->walk = car->before;
     return why;
@@ -138,8 +137,8 @@ static inline int32_t car_header(Car *car) {
     return code;
 }
 
-/* What is said of a section. Where its CID is of version 1, of DAG-CBOR or raw bytes, by SHA-256,
- * the program computes the digest. */
+/* The verdict on a section. If its CID is of version 1, of DAG-CBOR or raw bytes, by SHA-256, the
+ * program computes the digest. */
 static inline int32_t car_verdict(const Car *car, const size_t places[3]) {
     const uint8_t *name = car->bytes + places[0], *block = car->bytes + places[1];
     size_t length = places[2] - places[1];
@@ -152,22 +151,22 @@ static inline int32_t car_verdict(const Car *car, const size_t places[3]) {
     return is_raw ? DAGCBOR_NOT_READ : dagcbor_check(block, length);
 }
 
-/* What is said of the next section, or why there is none. */
+/* The verdict on the next section, or why there is none. */
 static inline int32_t car_section(Car *car, size_t most, size_t places[3]) {
     int32_t code = car_next(car, most, car->is_digest ? DAGCBOR_CAR_UNJUDGED : 0, places);
     if (code == DAGCBOR_CAR_SECTION) code = car_verdict(car, places);
     return code == CAR_FAILED ? car_back(car, code) : code;
 }
 
-/* Whether the number is that of a verdict, and not of why there is no section. */
+/* True if the number is that of a verdict, and not of why there is no section. */
 static inline bool is_verdict(int32_t code) {
     return code >= DAGCBOR_NOT_VERIFIED && code <= DAGCBOR_NOT_READ;
 }
 
-/* Whether a section of this verdict has the block that is named. */
+/* True if a section of this verdict has the block that is named. */
 static inline bool is_named(int32_t code) { return code > DAGCBOR_OTHER_BYTES; }
 
-/* Puts the length of a section, in at most 10 bytes, and answers in how many. */
+/* Puts the length of a section, in at most 10 bytes, and returns in how many. */
 static inline size_t put_length(uint8_t *out, uint64_t length) {
     size_t at = 0;
     for (; length >= 128; length >>= 7) out[at++] = (uint8_t)(length & 127) | 128;
@@ -175,8 +174,8 @@ static inline size_t put_length(uint8_t *out, uint64_t length) {
     return at;
 }
 
-/* Names. Each is there once: a byte of its length, and its bytes. In a bit of that byte stands
- * whether a block of that name is held; else it is wanted alone. */
+/* Names. Each is there once: a byte of its length, and its bytes. A bit of that byte says if a
+ * block of that name is held; else the name is only wanted. */
 typedef struct {
     Bytes packed;
     uint64_t *slots; /* where a name stands, counted from 1, and above it a part of its hash; or 0 */
@@ -191,7 +190,7 @@ static inline void names_free(Names *names) {
     free(names->slots);
 }
 
-/* No name, and a key that nobody foretells. False where none is to be had. */
+/* Starts with no name, and a key that nobody can foretell. False if there is none to be had. */
 static inline bool names_start(Names *names) {
     memset(names, 0, sizeof *names);
 #if defined(__linux__)
@@ -266,7 +265,7 @@ static inline bool names_grow(Names *names) {
     return true;
 }
 
-/* Notes a name, which is held now, or wanted. False where there is no memory. */
+/* Notes a name, which is held now, or wanted. False if out of memory. */
 static inline bool names_note(Names *names, const uint8_t *name, size_t length, bool is_held) {
     size_t slots = names->slots ? names->mask + 1 : 0;
     uint8_t mark = is_held ? NAME_HELD : 0;
@@ -347,14 +346,14 @@ static inline bool check_links(Check *check, const uint8_t *block, size_t length
     return names_want(&check->names, links->start, needed);
 }
 
-/* Whether a CID by the identity holds its own block: what it ends with, behind the byte that says
- * how long. The library says whether that is the block of this name. */
+/* True if a CID by the identity hash holds its own block: what it ends with, after the byte that
+ * says how long. The library says if that is the block of this name. */
 static inline int32_t held_inside(const uint8_t *name, size_t length, size_t at) {
     if (name[at - 1] != length - at) return DAGCBOR_OTHER_BYTES;
     return dagcbor_verify(name, length, name + at, length - at);
 }
 
-/* Notes a section of this verdict. False where there is no memory. */
+/* Notes a section of this verdict. False if out of memory. */
 static inline bool check_section(Check *check, int32_t code, const size_t places[3]) {
     const uint8_t *name = check->car.bytes + places[0], *block = check->car.bytes + places[1];
     bool is_read = code >= 0 && code != DAGCBOR_NOT_READ;
@@ -365,7 +364,7 @@ static inline bool check_section(Check *check, int32_t code, const size_t places
     return true;
 }
 
-/* Takes the sections at hand, as far as so many bytes. Answers why it stopped, or 0. */
+/* Takes the sections at hand, up to this many bytes. Returns why it stopped, or 0. */
 static inline int32_t check_sections(Check *check, size_t most) {
     size_t places[3];
     for (size_t passed = 0; passed < most; passed += places[2]) {

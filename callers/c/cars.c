@@ -1,11 +1,11 @@
-/* Goes through a CAR file, of version 1 or 2, and prints a line for each root, and for each
-   section its CID and the number of what is said of its block:
+/* Reads a CAR file, of version 1 or 2, and prints a line for each root, and for each section its
+   CID and the number of the verdict on its block:
 
        cars FILE
 
    The last line is 'end', or the number of the refusal and where it stands in the file. At most one
    section is in memory beside a piece, and nothing is reserved from a length that the file
-   announces. The status is 0 where the end is reached. */
+   announces. The status is 0 if the end is reached. */
 #include "car.h"
 #include <inttypes.h>
 #include <stdio.h>
@@ -44,7 +44,7 @@ static int32_t print_roots(Car *car, FILE *file) {
     return code;
 }
 
-/* Prints the next section; or answers why there is none. */
+/* Prints the next section; or returns why there is none. */
 static int32_t print_section(Car *car, FILE *file) {
     size_t places[3];
     int32_t code;

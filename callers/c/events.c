@@ -1,10 +1,10 @@
-/* Reads frames of a host's stream (AT Protocol) by libdagcbor_memory_ffi.a, one after the other: of
-   each its kind, and of a commit what is verified of it from its frame alone.
+/* Reads frames of a host's stream (AT Protocol) by libdagcbor_memory_ffi.a, one after the other: it
+   prints the kind of each, and for a commit what is verified of it from its frame alone.
 
      events FILE
 
-   A line a frame: `commit BYTES`, where the answer has so many; the number of another kind; or the
-   name of why the commit is not verified. The status is 0 where each frame is read. */
+   A line is a frame: `commit BYTES`, with the number of bytes of the answer; the number of another
+   kind; or the name of why the commit is not verified. The status is 0 if each frame is read. */
 #include "asking.h"
 #include <stdio.h>
 

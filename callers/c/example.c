@@ -1,5 +1,5 @@
-/* Three examples: a block is judged, gone through, and written. `example` runs them, and its status
-   is 0 where each answers as it says here. */
+/* Three examples: a block is judged, read, and written. `example` runs them, and its status is 0 if
+   each answers as this file says. */
 #undef NDEBUG
 #include "dagcbor.h"
 #include <assert.h>
@@ -26,7 +26,7 @@ static void judge(void) {
     assert(memcmp(name, "\x01\x71\x12\x20", 4) == 0);
 }
 
-/* Prints the item of the first token, and returns the token behind it. No list or map is in more
+/* Prints the item of the first token, and returns the token after it. No list or map is in more
  * than 127 others. */
 static const dagcbor_token *print(FILE *to, const uint8_t *block, const dagcbor_token *token) {
     uint64_t count = token->number;
@@ -74,7 +74,7 @@ static void go_through(void) {
            0);
 }
 
-/* The block of some tokens, which the caller frees, and its length; NULL where they tell none. */
+/* The block of some tokens, which the caller frees, and its length; NULL if they tell none. */
 static uint8_t *spelled(const char *payloads, const dagcbor_token *tape, size_t count,
                         size_t *length) {
     const uint8_t *bytes = (const uint8_t *)payloads;
@@ -91,8 +91,8 @@ static uint8_t *spelled(const char *payloads, const dagcbor_token *tape, size_t 
 }
 
 static void write_one(void) {
-    /* Of a text its place in the payloads counts. Keys come in their order: the shorter first, then
-     * by their bytes. */
+    /* For a text, its place in the payloads counts. Keys come in their order: the shorter first,
+     * then by their bytes. */
     const char *payloads = "moretexthiyear\xff";
     dagcbor_token tape[] = {
         {DAGCBOR_MAP, 3, 0},       {DAGCBOR_STRING, 4, 0}, {DAGCBOR_LIST, 3, 0},

@@ -1,7 +1,8 @@
-/* The heap of libdagcbor_memory_ffi.a, over that of C. A program whose heap is another defines these three over it. */
+/* The heap of libdagcbor_memory_ffi.a, over that of C. A program with another heap defines these
+ * three calls over it. */
 #include <stdlib.h>
 
-/* Whether there is memory, and where; where there is none, a pointer to anything but NULL. */
+/* Says if there is memory, and where; if there is none, a pointer to anything but NULL. */
 struct room {
     size_t is_there;
     void *at;
@@ -16,7 +17,7 @@ struct room rattle_alloc(size_t size, size_t align) {
     return room_at(malloc(size ? size : align));
 }
 
-/* `kept` bytes of the old memory are kept; where there is no room, it stays as it was. */
+/* `kept` bytes of the old memory are kept; if there is no room, it stays as it was. */
 struct room rattle_realloc(void *old, size_t kept, size_t size, size_t align) {
     (void)kept;
     return room_at(realloc(old, size ? size : align));

@@ -1,5 +1,5 @@
-/* Calls those of DAG-JSON for each row of their table: json TABLE. Prints the number of rows, or the row that is
- * answered otherwise. */
+/* Calls the functions of DAG-JSON for each row of their table: json TABLE. Prints the number of
+ * rows, or the row that gets another answer. */
 #include "dagcbor_memory.h"
 #include "rows.h"
 

@@ -1,10 +1,10 @@
-/* Makes each call that takes memory with the heap of faults/heap.c, where each allocation in turn is refused: memory is
- * wanted then, and nothing is written.
+/* Makes each call that takes memory with the heap of faults/heap.c, which refuses each allocation
+   in turn: then the call is out of memory, and writes nothing.
 
      memory FILE [FRAME]
 
    It verifies the commit of the frame, reads the commit of a repository, proves a record of it, and
-   reads it whole. Where that is one, the block that tells of it goes to DAG-JSON and back. It prints how
+   reads it whole. If it is one, the block that tells of it goes to DAG-JSON and back. It prints how
    many allocations each call made. */
 #undef NDEBUG
 #include "asking.h"
@@ -32,7 +32,8 @@ static int32_t block_or_none(Question *it, uint8_t *out, size_t room, size_t *ne
     return code;
 }
 
-/* The answer of the call, and how long it is, which it is again once no allocation is left to refuse. */
+/* The answer of the call, and its length, which is the same again once no allocation is left to
+ * refuse. */
 static int32_t answer_of(Call *call, const uint8_t *given, size_t length, uint8_t out[MOST],
                          size_t *needed) {
     static uint8_t again[MOST];

@@ -10,11 +10,11 @@ static inline const char *reason_of_code(int32_t code) {
     case DAGCBOR_NOT_READ: return "the block is of another codec than DAG-CBOR";
     case DAGCBOR_MSG: return "a link holds no CID";
     case DAGCBOR_EOF: return "the bytes end too early";
-    case DAGCBOR_MISMATCH: return "a key that is no text, or another tag than that of a link";
+    case DAGCBOR_MISMATCH: return "a key that is not a text, or another tag than that of a link";
     case DAGCBOR_UNSUPPORTED:
         return "a float or another simple value, a link without a byte string, or a reserved width";
     case DAGCBOR_REQUIRE_UTF8: return "a text that is not UTF-8";
-    case DAGCBOR_DEPTH_OVERFLOW: return "lists and maps are in each other too deep";
+    case DAGCBOR_DEPTH_OVERFLOW: return "lists and maps are nested too deep";
     case DAGCBOR_TRAILING_DATA: return "bytes after the item";
     case DAGCBOR_INDEFINITE_SIZE: return "an indefinite length or a break";
     case DAGCBOR_NON_MINIMAL: return "a number or a length in more bytes than it needs";
@@ -35,7 +35,7 @@ static inline const char *reason_of_code(int32_t code) {
     case DAGCBOR_TRAILING_BITS: return "bits that are not zero stand after the last byte";
     case DAGCBOR_LEADING_ZERO: return "the text begins with a zero byte, as no CID does";
     case DAGCBOR_INVALID_VERSION: return "version 0 has no prefix, and version 1 has one";
-    case DAGCBOR_INVALID_OFFSET: return "the offsets of version 2 are none";
+    case DAGCBOR_INVALID_OFFSET: return "the offsets of version 2 are invalid";
     case DAGCBOR_NODE_TRUNCATED: return "a field of the node is cut short";
     case DAGCBOR_INVALID_VARINT: return "a number of the node is too large";
     case DAGCBOR_UNEXPECTED_FIELD: return "a field of the node cannot be there";
@@ -47,7 +47,7 @@ static inline const char *reason_of_code(int32_t code) {
     case DAGCBOR_JSON_NO_TEXT: return "the text is not UTF-8";
     case DAGCBOR_JSON_NO_JSON: return "the text is not JSON";
     case DAGCBOR_JSON_TRAILING_DATA: return "more stands after the value";
-    case DAGCBOR_JSON_TOO_DEEP: return "lists and maps are in each other too deep";
+    case DAGCBOR_JSON_TOO_DEEP: return "lists and maps are nested too deep";
     case DAGCBOR_JSON_FLOAT: return "a number has a fraction or an exponent";
     case DAGCBOR_JSON_OUT_OF_RANGE: return "an integer is not from -2^64 to 2^64 - 1";
     case DAGCBOR_JSON_REPEATED_KEY: return "a map has a key twice";

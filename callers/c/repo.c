@@ -1,15 +1,16 @@
-/* Reads repositories by libdagcbor_memory_ffi.a: of each file the length of its answer, and the line of one that is none.
+/* Reads repositories by libdagcbor_memory_ffi.a: for each file the length of its answer, or the
+   line that tells why it is not one.
 
      repo FILE..
-     repo -c FILE..      of the commit alone
-     repo -k KEY FILE..  of the file that proves which record the key has
+     repo -c FILE..      for the commit alone
+     repo -k KEY FILE..  for the file that proves which record the key has
 
-   The status is 0 where there is an answer for all. */
+   The status is 0 if there is an answer for all. */
 #include "asking.h"
 #include <stdio.h>
 #include <string.h>
 
-/* The bytes of a file, which the caller frees, and their length; NULL where they are not read. */
+/* The bytes of a file, which the caller frees, and their length; NULL if they cannot be read. */
 static uint8_t *bytes_of(const char *path, size_t *length) {
     FILE *file = fopen(path, "rb");
     long end = -1;

@@ -10,7 +10,7 @@
 enum { MOST = 4096, LINE = 1 << 17 };
 
 /* The bytes of hexadecimal text, and how many. A '-' is none, and a ',' joins links, each packed
- * behind its length. */
+ * after its length. */
 static inline size_t from_hex(const char *text, uint8_t *out, int packed) {
     size_t count = 0, start = 0;
     unsigned byte;
@@ -28,16 +28,16 @@ static inline size_t from_hex(const char *text, uint8_t *out, int packed) {
     }
 }
 
-/* A call that puts bytes into room, in which all that it needs stands, or nothing changes. */
+/* A call that puts bytes into room. It puts all that it needs, or changes nothing. */
 typedef int32_t Putter(const uint8_t *, size_t, uint8_t *, size_t, size_t *);
 
-/* Whether the wanted bytes are put. Without room for all the answer is `full`. */
+/* True if the wanted bytes are put. Without room for all of them the answer is `full`. */
 static inline int puts_in_room(Putter *put, const uint8_t *bytes, size_t length, int code, int full,
                                const uint8_t *wanted, size_t count) {
     static uint8_t out[MOST];
     size_t needed = 99;
     memset(out, 0xee, sizeof out);
-    /* Asked with one byte too few it tells how many are needed, and puts none. */
+    /* Asked with one byte too few, it tells how many are needed, and puts none. */
     if (put(bytes, length, out, count ? count - 1 : 0, &needed) != full) return 0;
     if (needed != count || out[0] != 0xee) return 0;
     /* The usual way to ask how many are needed. */
@@ -54,7 +54,7 @@ static inline int puts_right(Putter *put, const uint8_t *bytes, size_t length, i
     return puts_in_room(put, bytes, length, code, full, wanted, count);
 }
 
-/* The number of rows, each of so many words; or none where one is answered otherwise. */
+/* The number of rows, each of this many words; or none if one gets another answer. */
 static inline int rows_of(const char *name, int words, int is_right(char *const *)) {
     static char line[LINE];
     FILE *table = fopen(name, "r");

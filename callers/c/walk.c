@@ -1,8 +1,8 @@
-/* Holds dagcbor_car_next, and car.h, which the packages for Python and Node stand on, over each
-   file of a table: walk FILES. Each file is cut once at each of its bytes: what is answered is what
-   the row says, at the same places. And each is put in one piece and in small ones, and then with
-   each allocation failing in turn: the answer is right, or there is no memory. So it is too where
-   the program computes digests. */
+/* Tests dagcbor_car_next, and car.h, on which the packages for Python and Node stand, with each
+   file of a table: walk FILES. Each file is cut once at each of its bytes: the answer is what the
+   row says, at the same places. Each is also put in one piece and in small ones, and then with each
+   allocation failing in turn: the answer is right, or there is no memory. That is also so if the
+   program computes digests. */
 #include <stdlib.h>
 
 static long left; /* allocations that are granted; below 0 all */
@@ -39,7 +39,7 @@ static int is_of_name(void *host, const uint8_t *block, size_t count, const uint
     return memcmp(name + 4, digest, 32) == 0;
 }
 
-/* Puts so many bytes more, or the end. */
+/* Puts this many bytes more, or the end. */
 static bool put_more(Check *check, size_t *at, size_t piece) {
     size_t count = length - *at < piece ? length - *at : piece;
     if (count == 0) check->car.is_whole = true;
@@ -48,7 +48,7 @@ static bool put_more(Check *check, size_t *at, size_t piece) {
     return true;
 }
 
-/* Goes through the file, by pieces of that size. Answers why it stopped. */
+/* Reads the file, by pieces of that size. Returns why it stopped. */
 static int32_t walked(Check *check, size_t piece) {
     size_t at = 0;
     bool is_begun = false;
@@ -80,7 +80,7 @@ static void tell_missing(const Names *names, char *out) {
     for (size_t i = 1; i < count; i++) strcat(strcat(out, ","), all[i]);
 }
 
-/* Whether the file is answered as its row, or there was no memory, which is told. */
+/* True if the answer for the file is that of its row, or there was no memory, which is told. */
 static bool is_right(size_t piece, const char *fault, const char *missing, bool *has_memory) {
     static char told[LONGEST];
     Check check;
@@ -133,7 +133,7 @@ static void put_roots(char *out, const uint8_t *block, size_t size) {
     }
 }
 
-/* Whether a section is told so: judged or not. */
+/* True if a section is told so: judged or not. */
 static bool is_section(int32_t code, uint32_t how) {
     return how & DAGCBOR_CAR_UNJUDGED ? code == DAGCBOR_CAR_SECTION : is_verdict(code);
 }
@@ -145,8 +145,8 @@ static char *put_section(char *out, const uint8_t *bytes, const size_t places[3]
     return put_hex(out, name, size) + sprintf(out + 2 * size, ":%zu:%" PRId32 ",", count, code);
 }
 
-/* What dagcbor_car_next answers of the file that is cut there: all bytes are at hand once those
- * before the cut do not tell what comes next. In the words of a row. */
+/* What dagcbor_car_next answers for the file that is cut there, in the words of a row: all bytes
+ * are at hand once those before the cut do not tell what comes next. */
 static void tell_cut(size_t cut, uint32_t how, char *told) {
     static char roots[2 * LONGEST], sections[2 * LONGEST];
     dagcbor_car_walk walk = {0, 0, 0, 0};
@@ -176,7 +176,7 @@ static void tell_cut(size_t cut, uint32_t how, char *told) {
     if (code != DAGCBOR_CAR_END) sprintf(told, "%" PRId32 ":%" PRIu64, code, walk.place);
 }
 
-/* Wherever the file is cut, what the row says is answered. */
+/* Wherever the file is cut, the answer is what the row says. */
 static bool are_right_cuts(char *const field[4]) {
     static char wanted[5 * LONGEST], told[5 * LONGEST];
     sprintf(wanted, "%s %s %s", field[1], field[2], field[3]);

@@ -12,11 +12,11 @@ import (
 	"strings"
 )
 
-// Verdict is what is said of the block of a section, as `dagcar check` says it: "ok map",
-// "refused NonMinimal", "not read" of another codec, "not verified", "other bytes".
+// Verdict is the verdict on the block of a section, in the words of `dagcar check`: "ok map", "refused
+// NonMinimal", "not read" if it is of another codec, "not verified", "other bytes".
 type Verdict string
 
-// IsVerified says whether the bytes are those that the CID names.
+// IsVerified returns true if the bytes are those that the CID names.
 func (verdict Verdict) IsVerified() bool {
 	return verdict != "other bytes" && verdict != "not verified"
 }
@@ -36,9 +36,9 @@ func verdictOf(code C.int32_t) Verdict {
 	return Verdict("ok " + name)
 }
 
-// Verify is nil where the bytes are those that the CID names; an Error of the kind OtherBytes where
-// they are others, and NotVerified where its hash function is not known. Check says whether they are
-// a block.
+// Verify returns nil if the bytes are those that the CID names. Else it returns an Error: of the kind
+// OtherBytes if they are others, and NotVerified if the hash function of the CID is not known. Check says if
+// they are a block.
 func Verify(cid CID, block []byte) error {
 	if code := judged(cid, block); code <= C.DAGCBOR_OTHER_BYTES {
 		return refused(code, -1)
@@ -59,11 +59,11 @@ type Section struct {
 	Verdict Verdict
 }
 
-// CARReader gives the sections of a CAR file (version 1 or 2) one at a time. At most
-// one is in memory, and nothing is reserved from a length that the file announces.
+// CARReader gives the sections of a CAR file (version 1 or 2) one at a time. At most one is in memory, and no
+// memory is reserved from a length that the file announces.
 type CARReader struct {
-	// SHA256, where it is set before Next, is what digests are computed by: sha256.Sum256 of
-	// crypto/sha256 is faster than the library's own, and is trusted then.
+	// If SHA256 is set before Next, it computes the digests, and is trusted: sha256.Sum256 of crypto/sha256
+	// is faster than the library's own.
 	SHA256 func([]byte) [32]byte
 
 	input // from the walk's place on
@@ -87,14 +87,14 @@ func NewCARReader(reader io.Reader) (*CARReader, error) {
 	return car, err
 }
 
-// Roots are those of the header.
+// Roots returns the roots of the header.
 func (car *CARReader) Roots() []CID { return car.roots }
 
-// Place is the offset of the next section.
+// Place returns the offset of the next section.
 func (car *CARReader) Place() uint64 { return uint64(car.walk.place) }
 
-// Next gives the next section, which is the caller's own. At the end of the file the error is
-// io.EOF; where the bytes are no CAR file it is an Error, and comes again.
+// Next returns the next section, which is the caller's own. At the end of the file the error is io.EOF. If
+// the bytes are not a CAR file it is an Error, which comes again in each later call.
 func (car *CARReader) Next() (Section, error) {
 	var how C.uint32_t
 	if car.SHA256 != nil {
@@ -139,8 +139,8 @@ func (car *CARReader) part(how C.uint32_t) (code C.int32_t, front, block []byte,
 	return 0, nil, nil, car.err
 }
 
-// The number of the verdict. Where SHA256 finds a block of DAG-CBOR or raw bytes to be the one that
-// its CID names, the digest is not computed again.
+// The number of the verdict. If SHA256 finds that a block of DAG-CBOR or raw bytes is the one that its CID
+// names, the digest is not computed again.
 func (car *CARReader) judged(cid CID, block []byte) C.int32_t {
 	isRaw := strings.HasPrefix(cid.bytes, "\x01\x55\x12\x20")
 	if isRaw || strings.HasPrefix(cid.bytes, "\x01\x71\x12\x20") {
@@ -155,7 +155,7 @@ func (car *CARReader) judged(cid CID, block []byte) C.int32_t {
 	return judged(cid, block)
 }
 
-// A place as an Error tells it.
+// A place, as an Error tells it.
 func told(place C.uint64_t) int64 {
 	if place > math.MaxInt64 {
 		return math.MaxInt64
@@ -176,8 +176,8 @@ func NewCARWriter(writer io.Writer, roots []CID) (*CARWriter, error) {
 	return car, car.put(nil, header)
 }
 
-// Write writes a block under its name, and says what is to be said of it. Bytes that are not those of
-// the CID are refused before they are written: an Error of the kind OtherBytes.
+// Write writes a block under its name, and returns its verdict. If the bytes are not those of the CID it
+// refuses them before they are written: an Error of the kind OtherBytes.
 func (car *CARWriter) Write(cid CID, block []byte) (Verdict, error) {
 	code := judged(cid, block)
 	if code == C.DAGCBOR_OTHER_BYTES || code == C.DAGCBOR_INVALID_CID {
@@ -186,7 +186,7 @@ func (car *CARWriter) Write(cid CID, block []byte) (Verdict, error) {
 	return verdictOf(code), car.put(cid.Bytes(), block)
 }
 
-// Writes both, with their length in front.
+// Writes both, with their length before them.
 func (car *CARWriter) put(name, block []byte) error {
 	front := binary.AppendUvarint(nil, uint64(len(name)+len(block)))
 	if _, err := car.writer.Write(append(front, name...)); err != nil {

@@ -10,7 +10,7 @@ import "encoding/binary"
 // CID is the name of a block. It is a key of maps, and its zero value names nothing.
 type CID struct{ bytes string }
 
-// ParseCID reads a text: Qm.. of version 0, and of version 1 after b, B, z or f.
+// ParseCID reads a text: Qm.. for version 0, and one with b, B, z or f first for version 1.
 func ParseCID(text string) (CID, error) {
 	at, length := from([]byte(text))
 	bytes, code := putInto(C.DAGCBOR_CID_MOST, func(to *room) C.int32_t {
@@ -22,7 +22,7 @@ func ParseCID(text string) (CID, error) {
 	return CID{string(bytes)}, nil
 }
 
-// CIDOf takes the binary form.
+// CIDOf reads the binary form.
 func CIDOf(bytes []byte) (CID, error) {
 	if _, code := textOf(bytes); code < 0 {
 		return CID{}, refused(code, -1)
@@ -37,7 +37,7 @@ func textOf(cid []byte) ([]byte, C.int32_t) {
 	})
 }
 
-// NewCID is that of version 1, of a codec, and a digest by a hash function.
+// NewCID makes a CID of version 1, from a codec, a hash function and a digest.
 func NewCID(codec, hashCode uint64, digest []byte) (CID, error) {
 	bytes := []byte{1}
 	for _, number := range []uint64{codec, hashCode, uint64(len(digest))} {
@@ -46,28 +46,28 @@ func NewCID(codec, hashCode uint64, digest []byte) (CID, error) {
 	return CIDOf(append(bytes, digest...))
 }
 
-// Defined tells the zero value from CIDs.
+// Defined returns true for a CID, and false for the zero value.
 func (cid CID) Defined() bool { return cid.bytes != "" }
 
-// Bytes are the binary form.
+// Bytes returns the binary form.
 func (cid CID) Bytes() []byte { return []byte(cid.bytes) }
 
-// String is the text: Qm.. of version 0, and base32 after b of version 1.
+// String returns the text: Qm.. for version 0, and base32 after b for version 1.
 func (cid CID) String() string {
 	text, _ := textOf(cid.Bytes())
 	return string(text) // none of the zero value
 }
 
-// Version is 0 or 1.
+// Version returns 0 or 1.
 func (cid CID) Version() uint64 { return cid.parts()[0] }
 
-// Codec is that of the block: 0x71 is DAG-CBOR.
+// Codec returns the codec of the block: 0x71 is DAG-CBOR.
 func (cid CID) Codec() uint64 { return cid.parts()[1] }
 
-// HashCode is the hash function: 0x12 is SHA-256.
+// HashCode returns the hash function: 0x12 is SHA-256.
 func (cid CID) HashCode() uint64 { return cid.parts()[2] }
 
-// Digest is the digest, without its length.
+// Digest returns the digest, without its length.
 func (cid CID) Digest() []byte { return []byte(cid.bytes[cid.parts()[3]:]) }
 
 // The version, the codec, the hash function, and where the digest begins.
@@ -87,10 +87,10 @@ func (cid CID) parts() (parts [4]uint64) {
 	return
 }
 
-// MarshalText is String, so that a CID is a text in JSON.
+// MarshalText does what String does, so that a CID is a text in JSON.
 func (cid CID) MarshalText() ([]byte, error) { return []byte(cid.String()), nil }
 
-// UnmarshalText is ParseCID, and none of an empty text.
+// UnmarshalText does what ParseCID does. An empty text gives the zero value.
 func (cid *CID) UnmarshalText(text []byte) (err error) {
 	*cid = CID{}
 	if len(text) > 0 {

@@ -1,12 +1,12 @@
-// Package dagcbor is DAG-CBOR by a proved library: whether bytes are a block, what they hold, how
-// data is spelled, and CAR files.
+// Package dagcbor is DAG-CBOR by a proved library. It judges if bytes are a block, reads what they hold,
+// spells data, and reads and writes CAR files.
 //
-// What this package does by itself is not proved: it reads values out of blocks that the library has
-// judged, and writes values as bytes that it judges then. It parses no text of a CID.
+// What this package does by itself is not proved: it reads values from blocks that the library has judged,
+// and writes values as bytes that the library then judges. It parses no text of a CID.
 //
 // It links with the libdagcbor_ffi.a that a release has in lib/, or with that of its repository;
-// CGO_LDFLAGS=-L.. may name another folder. A call needs 128 KB of C stack, which goroutines have,
-// and an x86-64-v2 or an aarch64.
+// CGO_LDFLAGS=-L.. may name another folder. A call needs 128 KB of C stack, which goroutines have, and an
+// x86-64-v2 or an aarch64.
 package dagcbor
 
 /*
@@ -40,19 +40,19 @@ const (
 	List
 	Map
 	Link
-	negative  // of a head alone: an integer below 0, which Integer is not then
+	negative  // of a head alone: an integer below 0; Integer is then one from 0
 	wholeItem // of whatever kind
 )
 
 func (kind Kind) String() string { return C.GoString(C.dagcbor_name_of_code(C.int32_t(kind))) }
 
-// Error says why bytes are no block, no CAR file or no CID, or why a value has no block, or a
-// block not the type of one.
+// Error says why bytes are not a block, a CAR file or a CID, or why a value has no block, or why a block does
+// not fit a type.
 type Error struct {
-	Kind  string       // the reason, as "NonMinimal"
-	Place int64        // of bytes: the offset at which the refusal comes, or MaxInt64 where it is greater; -1 where it is not known
-	Path  []any        // of a value: the keys and indices that lead to what has no block, or not the type
-	Type  reflect.Type // of a value: that at the path, where it is the reason
+	Kind  string       // the reason, such as "NonMinimal"
+	Place int64        // for bytes: the offset at which the refusal comes, or MaxInt64 if it is greater; -1 if it is not known
+	Path  []any        // for a value: the keys and indices that lead to what has no block, or is not of the type
+	Type  reflect.Type // for a value: the type at the path, if it is the reason
 	said  string
 	cause error
 }
@@ -68,7 +68,7 @@ func (err *Error) Error() string {
 	return said
 }
 
-// The path as .posts[3].createdAt; a key that is no word is quoted: ["a b"].
+// The path, such as .posts[3].createdAt; a key that is not a word is quoted: ["a b"].
 func pathText(path []any) string {
 	text := ""
 	for _, step := range path {
@@ -85,7 +85,7 @@ func isNoLetter(it rune) bool {
 	return !unicode.IsLetter(it) && !unicode.IsDigit(it) && !strings.ContainsRune("$_-", it)
 }
 
-// Unwrap answers the error of a value's method, and io.ErrUnexpectedEOF where bytes end too early.
+// Unwrap returns the error of a value's method, and io.ErrUnexpectedEOF if bytes end too early.
 func (err *Error) Unwrap() error {
 	if err.Kind == "Eof" || err.Kind == "Truncated" {
 		return io.ErrUnexpectedEOF
@@ -106,7 +106,7 @@ func refusedType(kind string, of reflect.Type, said string) *Error {
 	return &Error{Kind: kind, Place: -1, Path: []any{}, Type: of, said: of.String() + " " + said}
 }
 
-// The error, of what is in a list or map at this step.
+// The error, for a part of a list or map at this step.
 func within(step any, err error) error {
 	it := err.(*Error)
 	it.Path = append([]any{step}, it.Path...)
@@ -115,13 +115,13 @@ func within(step any, err error) error {
 
 const trailingData = C.DAGCBOR_TRAILING_DATA
 
-// The error of a number of the library.
+// The error for a number of the library.
 func refused(code C.int32_t, place int64) *Error {
 	name, said := C.dagcbor_name_of_code(code), C.reason_of_code(code)
 	return &Error{Kind: C.GoString(name), Place: place, said: C.GoString(said)}
 }
 
-// A pointer that the library takes, also of no bytes.
+// A pointer that the library takes, even for no bytes.
 var none [1]byte
 
 func from(bytes []byte) (*C.uint8_t, C.size_t) {
@@ -131,7 +131,7 @@ func from(bytes []byte) (*C.uint8_t, C.size_t) {
 	return (*C.uint8_t)(&bytes[0]), C.size_t(len(bytes))
 }
 
-// Check tells the kind of a block, exactly where the bytes are one.
+// Check returns the kind of a block, exactly if the bytes are one.
 func Check(block []byte) (Kind, error) {
 	code := check(block)
 	if code < 0 {
@@ -145,7 +145,7 @@ func check(block []byte) C.int32_t {
 	return C.dagcbor_check(at, length)
 }
 
-// Where bytes are refused, or end.
+// The place at which bytes are refused, or end.
 func placeIn(bytes []byte) int {
 	var needed, place C.size_t
 	var tape C.dagcbor_token
@@ -156,7 +156,7 @@ func placeIn(bytes []byte) int {
 
 func refusedIn(block []byte, code C.int32_t) error { return refused(code, int64(placeIn(block))) }
 
-// Name is the block's own CID: version 1, DAG-CBOR, by the SHA-256 of the bytes. Any bytes have one.
+// Name returns the block's own CID: version 1, DAG-CBOR, by the SHA-256 of the bytes. Any bytes have one.
 func Name(block []byte) CID {
 	var out [36]byte
 	at, length := from(block)
@@ -164,7 +164,7 @@ func Name(block []byte) CID {
 	return CID{string(out[:])}
 }
 
-// Links are those of the first item, repeats kept. What follows it is not looked at.
+// Links returns the links of the first item, with repeats. What follows the item is not looked at.
 func Links(block []byte) ([]CID, error) {
 	at, length := from(block)
 	packed, code := putInto(256, func(to *room) C.int32_t {
@@ -176,7 +176,7 @@ func Links(block []byte) ([]CID, error) {
 	return unpacked(packed), nil
 }
 
-// NodeLinks are the links of a block of DAG-PB, in its order, whatever their names are.
+// NodeLinks returns the links of a block of DAG-PB, in its order, whatever their names are.
 func NodeLinks(node []byte) ([]CID, error) {
 	var place C.size_t
 	at, length := from(node)
@@ -189,9 +189,9 @@ func NodeLinks(node []byte) ([]CID, error) {
 	return unpacked(packed), nil
 }
 
-// FromNode is the data model of a block of DAG-PB, as a block of DAG-CBOR: a map of Links and, if
-// the node has some, Data; each link a map of Hash, and of Name and Tsize if it has them. Unmarshal
-// reads it into a struct. A node with a name that is not UTF-8 has none: "NameNotText".
+// FromNode returns the data model of a block of DAG-PB, as a block of DAG-CBOR: a map of Links and, if the
+// node has some, Data. Each link is a map of Hash, and of Name and Tsize if it has them. Unmarshal reads it
+// into a struct. A node with a name that is not UTF-8 has no data model: "NameNotText".
 func FromNode(node []byte) ([]byte, error) {
 	var place C.size_t
 	at, length := from(node)
@@ -207,7 +207,7 @@ func FromNode(node []byte) ([]byte, error) {
 	return block, nil
 }
 
-// ToNode is the one canonical block of DAG-PB whose data model a block of DAG-CBOR has, as Marshal
+// ToNode returns the one canonical block of DAG-PB whose data model a block of DAG-CBOR has, as Marshal
 // writes it. Links that are not sorted by the bytes of their names are refused: "UnsortedLinks".
 func ToNode(block []byte) ([]byte, error) {
 	at, length := from(block)
@@ -223,13 +223,13 @@ func ToNode(block []byte) ([]byte, error) {
 	return node, nil
 }
 
-// Room for what a call puts, and how much that needs.
+// Room for what a call puts, and how much room that needs.
 type room struct {
 	out          *C.uint8_t
 	size, needed C.size_t
 }
 
-// The bytes that a call puts into room, of which it is given so much at first.
+// The bytes that a call puts into room, which has this size at first.
 func putInto(length int, call func(*room) C.int32_t) ([]byte, C.int32_t) {
 	for {
 		bytes := make([]byte, length+1)
@@ -242,7 +242,7 @@ func putInto(length int, call func(*room) C.int32_t) ([]byte, C.int32_t) {
 	}
 }
 
-// The CIDs that are packed: each with a byte of its length before it.
+// The packed CIDs: each with a byte of its length before it.
 func unpacked(packed []byte) (found []CID) {
 	for len(packed) > 0 {
 		end := 1 + int(packed[0])

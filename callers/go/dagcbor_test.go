@@ -53,7 +53,7 @@ func equal(t *testing.T, found, wanted any) {
 	}
 }
 
-// Whether the error is that of the number, at the place.
+// True if the error is that of the number, at the place.
 func isRefused(t *testing.T, err error, code int, place int64) {
 	t.Helper()
 	var refusal *Error
@@ -439,7 +439,7 @@ func TestSHA256(t *testing.T) {
 	}
 }
 
-// What a file has is written, and read again, but for bytes that are not those of their CID.
+// What a file has is written, and read again, except bytes that are not those of their CID.
 func TestWriter(t *testing.T) {
 	for _, row := range rows(t, "files") {
 		car, err := NewCARReader(bytes.NewReader(unhex(row[0])))

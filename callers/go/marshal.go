@@ -13,34 +13,36 @@ import (
 	"unicode/utf8"
 )
 
-// So many lists and maps may be around a part, and so many pointers: more stand in a ring.
+// The most lists and maps that may be around a part, and the most pointers: if there are more, they form a
+// ring.
 const (
 	mostLevels   = 127
 	mostPointers = 1000
-	tooDeep      = "lists and maps are in each other too deep"
+	tooDeep      = "lists and maps are nested too deep"
 )
 
 type writer struct {
 	block    []byte
 	levels   int  // of lists and maps around
 	pointers int  // around
-	looks    bool // for the text that is not UTF-8, or the link that is no CID
+	looks    bool // for the text that is not UTF-8, or the link that is not a CID
 	lastType reflect.Type
 	lastPlan *plan
 }
 
 var writers = sync.Pool{New: func() any { return &writer{} }}
 
-// Marshal is the one block of the data: what Unmarshal gives to an any, all sorts of integers, slices,
-// arrays, maps, structs as maps, and what pointers point at; of nil pointers, slices and maps it is
-// null. Keys come in the order of blocks.
+// Marshal returns the one block of the data. It takes what Unmarshal gives to an any, and all sorts of
+// integers, slices, arrays, maps, structs as maps, and what pointers point at. Nil pointers, slices and maps
+// become null. Keys come in the order of blocks.
 //
-// An entry of a struct has the name of the tag `dagcbor:"name,omitempty"`, else that of the tag for
-// json, else the field's. The rules are json's: of omitempty, omitzero and `-`, and of embedded
-// structs, whose fields are entries of the outer one. The option string is refused.
+// An entry of a struct has the name of the tag `dagcbor:"name,omitempty"`, else that of the tag for json,
+// else the field's. The rules are json's: for omitempty, omitzero and `-`, and for embedded structs, whose
+// fields are entries of the outer one. The option string is refused.
 //
-// A value with MarshalText is its text, also as a key. A struct that shows no field and has none is
-// the bytes of its MarshalBinary, or a link, as a CID of go-cid, or refused.
+// A value with MarshalText becomes its text, also as a key. If a struct shows no field and has no
+// MarshalText, it becomes the bytes of its MarshalBinary, or a link if it is a CID of go-cid; else it is
+// refused.
 func Marshal(value any) ([]byte, error) {
 	writer := writers.Get().(*writer)
 	if err := writer.marshal(value); err != nil {
@@ -59,10 +61,10 @@ type Encoder struct {
 	err  error // of the writer, which comes again
 }
 
-// NewEncoder writes what Marshal would give.
+// NewEncoder returns an Encoder, which writes what Marshal would give.
 func NewEncoder(into io.Writer) *Encoder { return &Encoder{into: into} }
 
-// Encode writes the block of the data, by one call. Of data without a block it writes nothing.
+// Encode writes the block of the data, by one call. If the data has no block it writes nothing.
 func (encoder *Encoder) Encode(value any) error {
 	if encoder.err != nil {
 		return encoder.err
@@ -76,7 +78,7 @@ func (encoder *Encoder) Encode(value any) error {
 	return encoder.err
 }
 
-// Texts and CIDs are judged with the block: where a fault is, is looked for when there is one.
+// Texts and CIDs are judged with the block. The place of a fault is looked for only if there is one.
 func (writer *writer) marshal(value any) error {
 	if err := writer.write(value, false); err != nil {
 		return err
@@ -96,7 +98,7 @@ func (writer *writer) write(value any, looks bool) error {
 	return writer.any(value)
 }
 
-// Some types, which data read into an any has, are written without reflection.
+// Some types, which data that is read into an any has, are written without reflection.
 func (writer *writer) any(value any) error {
 	switch it := value.(type) {
 	case nil:
@@ -140,8 +142,8 @@ func (writer *writer) head(first byte, number uint64) error {
 	return nil
 }
 
-// Of a number in 1 << width bytes eight are put, and those after the first ones cut off: that takes
-// no branch for each width.
+// For a number in 1 << width bytes eight bytes are put, and those after the first ones cut off: that needs no
+// branch for each width.
 func appendHead(block []byte, first byte, number uint64) []byte {
 	if number < 24 {
 		return append(block, first+byte(number))
@@ -193,7 +195,7 @@ func (writer *writer) link(cid string) error {
 	return nil
 }
 
-// Begins a list or map, after whose parts the level is left.
+// Begins a list or map. The level is left after its parts.
 func (writer *writer) open(first byte, count int) error {
 	if writer.levels == mostLevels && count > 0 {
 		return refusedValue("DepthOverflow", tooDeep)
@@ -314,7 +316,7 @@ func writesBy[T any](
 	}
 }
 
-// An item that a method spells is judged by itself, so that it is one, and no more.
+// An item that a method spells is judged by itself, so that it is one item, and no more.
 func (writer *writer) item(spelled []byte) error {
 	if code := check(spelled); code < 0 {
 		return refusedIn(spelled, code)
@@ -335,7 +337,7 @@ func putLink(writer *writer, cid []byte) error { return writer.link(string(cid))
 
 func keyString(cid linker) ([]byte, error) { return []byte(cid.KeyString()), nil }
 
-// The bytes by a method of the value.
+// The bytes that a method of the value gives.
 func bytesBy[T any](value reflect.Value, method func(T) ([]byte, error)) ([]byte, error) {
 	if !value.CanInterface() {
 		return nil, refusedType("Unsupported", value.Type(), notCallable)
@@ -432,7 +434,7 @@ func writeMap(part *plan) func(*writer, reflect.Value) error {
 	}
 }
 
-// The head of the map is written first, and again where fields are left out.
+// The head of the map is written first, and again if fields are left out.
 func writeFields(fields []field) func(*writer, reflect.Value) error {
 	return func(writer *writer, value reflect.Value) error {
 		start, count := len(writer.block), 0
@@ -465,7 +467,7 @@ func writeFields(fields []field) func(*writer, reflect.Value) error {
 	}
 }
 
-// Writes the field of the struct. Whether it is an entry.
+// Writes the field of the struct. Returns true if it is an entry.
 func (writer *writer) field(field *field, value reflect.Value) (isSent bool, err error) {
 	value, isNil := value.FieldByIndexErr(field.index)
 	switch {

@@ -10,11 +10,11 @@ import (
 	"fmt"
 )
 
-// ErrNoSuchPath says that a path leads nowhere in its block, or from block to block. That is so for
-// whoever has blocks of these names.
+// ErrNoSuchPath says that a path leads nowhere in its block, or from block to block. That holds for everyone
+// who has blocks of these names.
 var ErrNoSuchPath = errors.New("dagcbor: the path leads nowhere")
 
-// ErrMissing says that a block on the way is not held, so nothing is known of the path's end.
+// ErrMissing says that a block on the way is not held, so nothing is known about the path's end.
 var ErrMissing = errors.New("dagcbor: no block is held")
 
 // The kind and the bytes of the last item to which a front of the path leads, and what is left of
@@ -33,7 +33,7 @@ func follow(block []byte, path string) (Kind, []byte, string, error) {
 	return Kind(code), block[places[0]:places[1]:places[1]], path[places[2]:], nil
 }
 
-// What follow tells, of segments, each taken whole.
+// What follow tells, for segments that are each taken whole.
 func followSegments(block []byte, segments []string) (Kind, []byte, []string, error) {
 	kind, item, _, err := follow(block, "")
 	for err == nil && len(segments) > 0 {
@@ -52,16 +52,16 @@ func followSegments(block []byte, segments []string) (Kind, []byte, []string, er
 	return kind, item, segments, err
 }
 
-// Find answers the bytes of the item to which a path as a/0/b leads in a block, which are a block by
-// themselves, over the same memory; else ErrNoSuchPath. Segments stand between slashes, and empty
-// ones say nothing: each is a key of a map, or the index of an item of a list in decimal. A link is
-// an item, and nothing is in it.
+// Find returns the bytes of the item to which a path such as a/0/b leads in a block. They are a block by
+// themselves, over the same memory. Else it returns ErrNoSuchPath. Segments stand between slashes, and empty
+// ones say nothing: each is a key of a map, or the index of an item of a list in decimal. A link is an item,
+// and nothing is in it.
 func Find(block []byte, path string) ([]byte, error) {
 	return find(block, path, follow)
 }
 
-// FindSegments is Find of a list of segments, each taken whole: it reaches keys that are empty or
-// have slashes too.
+// FindSegments is Find for a list of segments, each taken whole: it also reaches keys that are empty or have
+// slashes.
 func FindSegments(block []byte, segments []string) ([]byte, error) {
 	return find(block, segments, followSegments)
 }
@@ -76,16 +76,15 @@ func find[P string | []string](
 	return item, err
 }
 
-// Resolve answers the bytes of the item to which the path leads from the block of the root, over
-// links, as `ipfs dag get`; ErrNoSuchPath where it leads nowhere. Each block on the way is verified,
-// so either answer holds of whoever has blocks of these names. What get answers for a block that is
-// not held, and else its error, is handed on; no bytes and no error are ErrMissing. A link at the end
-// is the item.
+// Resolve returns the bytes of the item to which the path leads from the block of the root, over links, as
+// `ipfs dag get` does; it returns ErrNoSuchPath if the path leads nowhere. Each block on the way is verified,
+// so either answer holds for everyone who has blocks of these names. An error of get is handed on; if get
+// returns no bytes and no error, that is ErrMissing. A link at the end is the item.
 func Resolve(get func(CID) ([]byte, error), root CID, path string) ([]byte, error) {
 	return resolve(get, root, path, follow)
 }
 
-// ResolveSegments is Resolve of a list of segments, each taken whole.
+// ResolveSegments is Resolve for a list of segments, each taken whole.
 func ResolveSegments(get func(CID) ([]byte, error), root CID, segments []string) ([]byte, error) {
 	return resolve(get, root, segments, followSegments)
 }
@@ -113,7 +112,7 @@ func resolve[P string | []string](
 	}
 }
 
-// The block that is held under the name, where it is that of the name. A name by the identity holds
+// The block that is held under the name, if it is the block of that name. A name by the identity hash holds
 // its block itself.
 func verified(get func(CID) ([]byte, error), cid CID) ([]byte, error) {
 	if cid.Defined() && cid.HashCode() == 0 {
@@ -134,7 +133,7 @@ func verified(get func(CID) ([]byte, error), cid CID) ([]byte, error) {
 	return block, notRead(cid)
 }
 
-// Of a CID of another codec.
+// For a CID of another codec.
 func notRead(cid CID) error {
 	if cid.Codec() == 0x71 {
 		return nil

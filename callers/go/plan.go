@@ -38,7 +38,7 @@ func planOf(of reflect.Type) *plan {
 	return it
 }
 
-// A planner has the plans that are made at once: each may be of the others, and of itself.
+// A planner has the plans that are being made: each may be made of the others, and of itself.
 type planner map[reflect.Type]*plan
 
 func (made planner) plan(of reflect.Type) *plan {
@@ -100,7 +100,7 @@ func (made planner) planOfKind(of reflect.Type) plan {
 	return noPlan("Unsupported", "is none of the types of data")
 }
 
-// The plan of a type whose values may be nil, which is null.
+// The plan of a type whose values may be nil, which becomes null.
 func (of plan) orNull() plan {
 	write := func(writer *writer, value reflect.Value) error {
 		if value.IsNil() {
@@ -118,7 +118,7 @@ func (of plan) orNull() plan {
 	return plan{write: write, read: read}
 }
 
-// The plan of a type that is not written, nor read.
+// The plan of a type that is neither written nor read.
 func noPlan(kind, said string) plan {
 	write := func(_ *writer, value reflect.Value) error { return refusedType(kind, value.Type(), said) }
 	read := func(_ *reader, it item, into reflect.Value) error {
@@ -136,20 +136,20 @@ type linker interface {
 	encoding.BinaryUnmarshaler
 }
 
-// Marshaler is a value that spells its own item, as for fxamacker/cbor: one block by itself.
+// Marshaler is a value that spells its own item, as in fxamacker/cbor: one block by itself.
 type Marshaler interface{ MarshalCBOR() ([]byte, error) }
 
 // Unmarshaler is a value that reads its own item, whatever that is, also null. The bytes are lent.
 type Unmarshaler interface{ UnmarshalCBOR(item []byte) error }
 
-// The same as whyrusleeping/cbor-gen makes them.
+// The same, as whyrusleeping/cbor-gen makes them.
 type streamMarshaler interface{ MarshalCBOR(io.Writer) error }
 type streamUnmarshaler interface{ UnmarshalCBOR(io.Reader) error }
 
-// RawMessage is an item as it is spelled. It is written as it stands, and null where it is nil.
+// RawMessage is an item as it is spelled. It is written as it stands, or as null if it is nil.
 type RawMessage []byte
 
-// MarshalCBOR gives the bytes.
+// MarshalCBOR returns the bytes.
 func (raw RawMessage) MarshalCBOR() ([]byte, error) {
 	if raw == nil {
 		return []byte{headNull}, nil
@@ -179,9 +179,9 @@ var (
 
 func typeOf[T any]() reflect.Type { return reflect.TypeOf((*T)(nil)).Elem() }
 
-// How a type is written by its own methods, or those of a pointer to it. MarshalText is asked as by
-// json. Of a struct that shows no field, which json writes as {}, a CID of go-cid is a link, and
-// others are bytes by MarshalBinary.
+// How a type is written by its own methods, or those of a pointer to it. As in json, MarshalText is asked. If
+// a struct shows no field (json writes it as {}), a CID of go-cid is a link, and others are bytes by
+// MarshalBinary.
 func methodWriter(of reflect.Type) func(*writer, reflect.Value) error {
 	pointer, shows := reflect.PointerTo(of), showsFields(of)
 	switch {
@@ -229,8 +229,8 @@ type field struct {
 	refusal  string
 }
 
-// The field to be set, with pointers that are nil set before; or the type of one that is not exported,
-// and so cannot be.
+// The field to be set, after pointers that are nil are set; or the type of a pointer that is not exported,
+// and so cannot be set.
 func (field *field) into(value reflect.Value) (reflect.Value, reflect.Type) {
 	for depth, at := range field.index {
 		if depth > 0 && value.Kind() == reflect.Pointer {
@@ -263,9 +263,9 @@ func (made planner) structs(of reflect.Type) plan {
 	return plan{write: writeFields(fields), read: readFields(fields)}
 }
 
-// The fields that are entries, in the order of blocks, by the rules of json: of one name the least deep
-// counts, and of those the one that has it of a tag; where two are left, none does. And whether others
-// are there.
+// The fields that are entries, in the order of blocks, by the rules of json: of fields with one name the
+// least deep counts, and of those the one whose tag gives the name; if two are left, neither counts. Also
+// tells if there are other fields.
 func fieldsOf(of reflect.Type) (fields []field, hides bool) {
 	all, hides := allFieldsOf(of)
 	sort.SliceStable(all, func(i, j int) bool { return all[i].isBefore(&all[j]) })
@@ -296,8 +296,8 @@ type embedded struct {
 	index []int
 }
 
-// All fields that are entries, also those that others hide; and whether some are not shown. A struct
-// that is embedded deeper again is passed: its fields are hidden, and it may be its own.
+// All fields that are entries, also those that others hide; and if some are not shown. A struct that is
+// embedded again, and deeper, is passed: its fields are hidden, and it may embed itself.
 func allFieldsOf(of reflect.Type) (found []field, hides bool) {
 	depths := map[reflect.Type]int{}
 	for left := []embedded{{of, nil}}; len(left) > 0; left = left[1:] {
@@ -312,7 +312,7 @@ func allFieldsOf(of reflect.Type) (found []field, hides bool) {
 	return found, hides
 }
 
-// The struct's own entries, the structs that it embeds, and whether some fields are neither.
+// The struct's own entries, the structs that it embeds, and if some fields are neither.
 func (outer embedded) fields() (entries []field, inner []embedded, hides bool) {
 	for i := 0; i < outer.NumField(); i++ {
 		it := outer.Field(i)
@@ -367,7 +367,7 @@ func newField(it reflect.StructField, name, options string, index []int) field {
 	return made
 }
 
-// As for json; and a CID that names nothing.
+// As in json; and also a CID that names nothing.
 func isEmpty(value reflect.Value) bool {
 	switch value.Kind() {
 	case reflect.Slice, reflect.Map, reflect.String, reflect.Array:
@@ -391,7 +391,7 @@ func isZero(value reflect.Value) bool {
 	return ok && zeroer.IsZero()
 }
 
-// Of the value, or of a copy where it has no place.
+// Of the value, or of a copy if it has no address.
 func pointerTo(value reflect.Value) any {
 	if !value.CanAddr() {
 		place := reflect.New(value.Type())
@@ -401,7 +401,7 @@ func pointerTo(value reflect.Value) any {
 	return value.Addr().Interface()
 }
 
-// The struct that the field embeds, or nil: CIDs and big integers are no structs of entries.
+// The struct that the field embeds, or nil: CIDs and big integers are not structs of entries.
 func embeddedBy(it reflect.StructField) reflect.Type {
 	part := it.Type
 	if it.Anonymous && part.Kind() == reflect.Pointer {
@@ -413,8 +413,8 @@ func embeddedBy(it reflect.StructField) reflect.Type {
 	return part
 }
 
-// Whether the field is an entry. Of embedded structs that show no field those are that have a name or
-// are written by a method, as time.Time, and not sync.Mutex.
+// Returns true if the field is an entry. Embedded structs that show no field are entries if they have a name
+// or a method writes them: time.Time is one, and sync.Mutex is not.
 func isEntry(it reflect.StructField, name string, embeds reflect.Type) bool {
 	switch {
 	case embeds == nil:
@@ -425,7 +425,7 @@ func isEntry(it reflect.StructField, name string, embeds reflect.Type) bool {
 	return it.IsExported() && (name != "" || methodWriter(embeds) != nil)
 }
 
-// Whether the type tells what it holds: not so a struct that hides all fields, as time.Time.
+// Returns true if the type tells what it holds. A struct that hides all fields, such as time.Time, does not.
 func showsFields(of reflect.Type) bool {
 	if of.Kind() != reflect.Struct {
 		return true

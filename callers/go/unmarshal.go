@@ -8,23 +8,22 @@ import (
 	"reflect"
 )
 
-// Unmarshal reads a block into what the pointer points at: what Marshal takes, with structs as maps.
-// An any becomes nil, bool, int64, uint64 of 2^63 or more, *big.Int below -2^63, string, []byte,
-// []any, map[string]any or CID. As for json, what pointers point at is read into, and entries are put
-// into a map that is there; entries that a struct has no field for are passed, and fields without an
-// entry left as they are. Null makes pointers, slices, maps and interfaces nil, and leaves others as
-// they are. What Marshal writes by MarshalText or MarshalBinary is read by UnmarshalText or
-// UnmarshalBinary.
+// Unmarshal reads a block into what the pointer points at: what Marshal takes, with structs as maps. An any
+// becomes nil, bool, int64, uint64 from 2^63 on, *big.Int below -2^63, string, []byte, []any, map[string]any
+// or CID. As in json, it reads into what pointers point at, and puts entries into a map that is there. It
+// passes entries that a struct has no field for, and leaves fields without an entry as they are. Null makes
+// pointers, slices, maps and interfaces nil, and leaves others as they are. UnmarshalText or UnmarshalBinary
+// reads what Marshal writes by MarshalText or MarshalBinary.
 //
-// Where the bytes are a block, and not one of the type, the Error has the kind "Type", and what stood
-// before was read; after other errors the target is as it was.
+// If the bytes are a block, but not one of the type, the Error has the kind "Type", and what came before was
+// read. After other errors the target is as it was.
 func Unmarshal(block []byte, into any) error {
 	_, err := unmarshal(block, into, false)
 	return err
 }
 
-// UnmarshalFirst reads the first item so, and answers the bytes after it, also where the error has
-// the kind "Type".
+// UnmarshalFirst reads the first item so, and returns the bytes after it, even if the error has the kind
+// "Type".
 func UnmarshalFirst(bytes []byte, into any) (rest []byte, err error) {
 	return unmarshal(bytes, into, true)
 }
@@ -50,14 +49,14 @@ func settable(into any) error {
 	return nil
 }
 
-// What is read of a reader, and not given yet.
+// What is read from a reader, and not given yet.
 type input struct {
 	reader io.Reader
 	left   []byte
 	err    error // of the reader, after what is left
 }
 
-// So many bytes are read at once, at least, where the reader has them.
+// The least number of bytes that are read at once, if the reader has them.
 const piece = 1 << 13
 
 // Reads once, into room that doubles.
@@ -75,7 +74,7 @@ func (input *input) fill() {
 	input.left = input.left[:len(input.left)+count]
 }
 
-// Passes so many bytes, as far as the reader has them.
+// Passes this many bytes, as far as the reader has them.
 func (input *input) pass(count uint64) {
 	for count > uint64(len(input.left)) && input.err == nil {
 		count -= uint64(len(input.left))
@@ -91,7 +90,7 @@ func (input *input) pass(count uint64) {
 // A Decoder reads blocks that come one after the other. It may read more than it gives, and keeps it.
 type Decoder struct {
 	input
-	whole    span // of the item that what is left begins with, as far as it is gone through
+	whole    span // of the item at the front of what is left, as far as it is read
 	place    int64
 	isStrict bool
 	refusal  error // of what is left
@@ -102,16 +101,16 @@ func NewDecoder(from io.Reader) *Decoder {
 	return &Decoder{input: input{reader: from}, whole: span{left: 1}}
 }
 
-// DisallowUnknownFields makes an entry that a struct has no field for an error, "UnknownField".
+// DisallowUnknownFields makes it an error, "UnknownField", if a struct has no field for an entry.
 func (decoder *Decoder) DisallowUnknownFields() { decoder.isStrict = true }
 
-// Buffered is what was read, and not given yet. It holds until the next Decode.
+// Buffered returns what was read, and not given yet. It holds until the next Decode.
 func (decoder *Decoder) Buffered() io.Reader { return bytes.NewReader(decoder.left) }
 
-// InputOffset is where the next block begins.
+// InputOffset returns where the next block begins.
 func (decoder *Decoder) InputOffset() int64 { return decoder.place }
 
-// More says whether anything follows. It may read.
+// More returns true if anything follows. It may read.
 func (decoder *Decoder) More() bool {
 	if len(decoder.left) == 0 && decoder.err == nil {
 		decoder.fill()
@@ -182,7 +181,7 @@ func (reader *reader) data(into any) error {
 // By the major type of a head.
 var majors = [...]Kind{Integer, negative, Bytes, String, List, Map, Link, Bool}
 
-// The first head of the bytes, and its length: 0 where they end within it, and 1 of a width that is none.
+// The first head of the bytes, and its length: 0 if they end within it, and 1 if its width is invalid.
 func headOf(bytes []byte) (kind Kind, number uint64, length int) {
 	kind, number, length = majors[bytes[0]>>5], uint64(bytes[0]&31), 1
 	if number >= 24 && number < 28 {
@@ -204,8 +203,8 @@ func (reader *reader) head() (Kind, uint64) {
 	return kind, number
 }
 
-// An item whose head was read: where it begins, its kind, and its number: of strings, bytes and links
-// how many bytes follow.
+// An item whose head was read: where it begins, its kind, and its number: for strings, bytes and links how
+// many bytes follow.
 type item struct {
 	start  int
 	kind   Kind
@@ -240,7 +239,7 @@ type span struct {
 	left uint64
 }
 
-// Goes on through the bytes. Whether the item ends in them, or a head that is none stands there.
+// Goes on through the bytes. Returns true if the item ends in them, or if an invalid head stands there.
 func (span *span) pass(bytes []byte) bool {
 	for span.left > 0 && span.at < len(bytes) {
 		kind, number, length := headOf(bytes[span.at:])
@@ -266,7 +265,7 @@ func (span *span) pass(bytes []byte) bool {
 	return span.left == 0 && span.at <= len(bytes)
 }
 
-// The number, or one that is greater than any length of bytes that are there.
+// The number, or one that is greater than the length of any bytes that are there.
 func capped(number uint64) uint64 {
 	if number > 1<<60 {
 		return 1 << 60
@@ -325,7 +324,7 @@ func (reader *reader) value(it item) any {
 	return nil
 }
 
-// The error of an item that the type does not take, but for null, which leaves it as it is.
+// The error for an item that the type does not take. Null is no error, and leaves the target as it is.
 func unfit(it item, into reflect.Value) error {
 	if it.kind == Null {
 		return nil
@@ -437,7 +436,7 @@ func readBytes(reader *reader, it item, into reflect.Value) error {
 	return nil
 }
 
-// Into what the interface holds, where that is a pointer, as for json.
+// Into what the interface holds, if that is a pointer, as in json.
 func readInterface(reader *reader, it item, into reflect.Value) error {
 	held := into.Elem()
 	switch {

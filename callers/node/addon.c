@@ -1,5 +1,5 @@
 /* The library for Node, by Node-API. No value of a block and no error of one is made here: a call
-   answers numbers, bytes or texts, and where the library refuses its number, which is below 0.
+   returns numbers, bytes or texts, and if the library refuses, its number, which is below 0.
 
    No script runs while the library reads the bytes of a Uint8Array. Memory that another thread may
    write is refused. */
@@ -13,8 +13,7 @@ enum { LATIN1 = 10, WIDE = 11 }; /* the kinds of its parts: of bytes for units, 
 enum { SHARED = 1024 };          /* bytes of a block that may share memory */
 static const uint64_t ABSENT = UINT32_MAX; /* the place of a payload that is not there yet */
 
-/* The one argument, and what the call is told; NULL, with an exception thrown, where there is
- * none. */
+/* The one argument, and what the call is told; NULL, with an exception thrown, if there is none. */
 static napi_value argument(napi_env env, napi_callback_info info, void **about) {
     size_t count = 1;
     napi_value given;
@@ -53,8 +52,8 @@ static Own *own_of(napi_env env) {
     return own;
 }
 
-/* read(block): its compact tape. How many tokens there are, where they stand in the array that is
- * kept, and else an array of their own. */
+/* read(block): its compact tape. Returns how many tokens there are, if they are in the array that
+ * is kept, and else an array of their own. */
 static napi_value read_tape(napi_env env, napi_callback_info info) {
     size_t length;
     void *tokens;
@@ -72,9 +71,9 @@ static napi_value read_tape(napi_env env, napi_callback_info info) {
     return array;
 }
 
-/* Makes the tokens of texts from there on those of parts of one text, whose units are put: how many
- * there are. It takes those alone whose units are bytes, or those alone that have others, and looks
- * at so many bytes. */
+/* Makes the tokens of texts from there on parts of one text, whose units it puts. Returns how many
+ * there are. It takes only those whose units are bytes, or only those that have others, and looks
+ * at no more bytes than this limit. */
 static size_t gather(const Own *own, size_t first, bool are_latin1, size_t most, uint16_t *units) {
     size_t count = 0;
     for (size_t i = first, looked = 0; i < own->count; i++) {
@@ -91,8 +90,8 @@ static size_t gather(const Own *own, size_t first, bool are_latin1, size_t most,
     return count;
 }
 
-/* texts(i): a text that has that of the token, which is beyond ASCII, and some of those behind it;
- * their tokens say now which part each is. */
+/* texts(i): a text that has that of the token, which is beyond ASCII, and some of those after it;
+ * their tokens now say which part each is. */
 static napi_value make_texts(napi_env env, napi_callback_info info) {
     uint16_t room[WINDOW], *units = room;
     uint32_t first;
@@ -115,7 +114,7 @@ static napi_value make_texts(napi_env env, napi_callback_info info) {
 
 /* The tokens of encode.js */
 
-/* A tape of encode.js: its tokens, of which the payloads are there of those before the first. */
+/* A tape of encode.js: its tokens. The payloads of those before the first are there. */
 typedef struct {
     dagcbor_token *tokens;
     uint8_t *payload;
@@ -123,8 +122,8 @@ typedef struct {
     uint32_t first, count, used;
 } Spelling;
 
-/* Puts the payloads that are not there, whose units stand one behind the other, with room for them.
- * False where one has no UTF-8: its token stays. */
+/* Puts the payloads that are not there, whose units stand one after the other, with room for them.
+ * False if one has no UTF-8: its token stays. */
 static bool put_payloads(Spelling *it, const uint16_t *units) {
     uint8_t *out = it->payload + it->used;
     for (size_t i = it->first; i < it->count; i++) {
@@ -156,7 +155,7 @@ static int32_t settle(napi_env env, Spelling *it, napi_value texts) {
     return is_put ? 0 : has_room ? DAGCBOR_REQUIRE_UTF8 : DAGCBOR_NO_ROOM;
 }
 
-/* Spells the tape into so much room, or else into memory of its own. */
+/* Spells the tape into this much room, or else into memory of its own. */
 static napi_value spelt(napi_env env, const Spelling *it, uint8_t *out, size_t room) {
     size_t needed;
     int32_t code = dagcbor_spell(it->payload, it->used, it->tokens, it->count,
@@ -168,10 +167,11 @@ static napi_value spelt(napi_env env, const Spelling *it, uint8_t *out, size_t r
     return code < 0 ? number_of(env, code) : block;
 }
 
-/* spell(count, used, texts, into, from, first, words, payload): puts the payloads, out of the
- * texts, if there are any, of the tokens from the first on that have none. Without an array to put
- * it into it answers how many bytes of payloads there are; and else the block: its length, where it
- * is put there, and else an array of its own. The tape is that which is kept where none is given. */
+/* spell(count, used, texts, into, from, first, words, payload): puts the payloads, from the texts,
+ * if there are any, of the tokens from the first on that have none. Without an array to put the
+ * block into it returns how many bytes of payloads there are. Else it returns the block: its
+ * length, if it is put there, or an array of its own. If no tape is given it takes the one that is
+ * kept. */
 static napi_value spell(napi_env env, napi_callback_info info) {
     size_t argc = 8, length = 0;
     napi_value given[8];
@@ -207,7 +207,7 @@ static napi_value check(napi_env env, napi_callback_info info) {
     return bytes ? number_of(env, dagcbor_check(bytes, length)) : NULL;
 }
 
-/* place(bytes): that of the refusal. */
+/* place(bytes): the place of the refusal. */
 static napi_value place(napi_env env, napi_callback_info info) {
     size_t length, needed, at;
     const uint8_t *bytes = bytes_of(env, info, &length, NULL);
@@ -251,7 +251,7 @@ static napi_value lead(napi_env env, napi_callback_info info) {
     return code < 0 ? number_of(env, code) : doubles(env, told, 4);
 }
 
-/* verify(cid, block): the number of what is said of the two. */
+/* verify(cid, block): the number of the verdict on the two. */
 static napi_value verify(napi_env env, napi_callback_info info) {
     const uint8_t *given[2];
     size_t lengths[2];
@@ -272,7 +272,7 @@ static napi_value tape(napi_env env, napi_callback_info info) {
     return answer;
 }
 
-/* A call that puts bytes into room, in which all have place or nothing is put. */
+/* A call that puts bytes into room. All have place in it or nothing is put. */
 typedef int32_t Put(const uint8_t *given, size_t length, uint8_t *out, size_t room, size_t *needed,
                     size_t *place);
 
@@ -304,7 +304,7 @@ static napi_value put_bytes(napi_env env, napi_callback_info info) {
     return answer;
 }
 
-/* placeInNode(bytes): that of the fault for which they are no block of DAG-PB. */
+/* placeInNode(bytes): the place of the fault for which they are not a block of DAG-PB. */
 static napi_value place_in_node(napi_env env, napi_callback_info info) {
     size_t length, needed, place = 0;
     const uint8_t *node = bytes_of(env, info, &length, NULL);
@@ -313,7 +313,7 @@ static napi_value place_in_node(napi_env env, napi_callback_info info) {
     return number_of(env, (int64_t)place);
 }
 
-/* name(bytes): that of them as a block, a text of its bytes. */
+/* name(bytes): their name as a block, a text of its bytes. */
 static napi_value name(napi_env env, napi_callback_info info) {
     size_t length;
     const uint8_t *bytes = bytes_of(env, info, &length, NULL);

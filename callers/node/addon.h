@@ -9,7 +9,7 @@
 #include <stdlib.h>
 #include <string.h>
 
-/* Where a call of Node-API fails, an exception is pending, or `raise` makes one. */
+/* If a call of Node-API fails, an exception is pending, or `raise` makes one. */
 #define TRY(call)                                                              \
     do {                                                                       \
         if ((call) != napi_ok) return raise(env, "a call of Node-API failed"); \
@@ -24,7 +24,7 @@ napi_value number_of(napi_env env, int64_t number);
  * address. */
 const uint8_t *bytes_in(napi_env env, napi_value given, size_t *length);
 
-/* A typed array of its own, of so many numbers of that size, and where they stand. */
+/* A typed array of its own, of this many numbers of that size, and where they stand. */
 napi_value new_array(napi_env env, napi_typedarray_type type, size_t count, size_t size, void **at);
 
 /* A Uint8Array of its own, and where its bytes stand. */
@@ -48,7 +48,7 @@ struct Work {
     napi_deferred deferred;
 };
 
-/* A promise of the answer, or of the exception that is pending where it is NULL. */
+/* A promise of the answer, or of the exception that is pending if it is NULL. */
 napi_value promise_of(napi_env env, Work *work);
 
 /* Of texts */

@@ -14,8 +14,8 @@ const programPaths = [inOut('dagstore'), inPrebuilds('dagstore')];
 
 const thereOf = (paths) => paths.filter((it) => existsSync(it));
 
-// The first of the addons that loads; else the reasons of those that are there, as that of another
-// C library or processor.
+// The first of the addons that loads; else the reasons of those that are there, for example that
+// one is for another C library or processor.
 const addonOf = (paths) => {
   const reasons = [];
   for (const path of thereOf(paths)) {
@@ -28,7 +28,7 @@ const addonOf = (paths) => {
   return { reasons };
 };
 
-// The error where none of a package's addons loads: how one is made, and the reasons.
+// The error if none of a package's addons loads: how to make one, and the reasons.
 const lacking = (name, of, reasons) => {
   const how = `\`node build.js\` in ${__dirname} compiles one${of}`;
   return new Error([`there is no addon of ${name} for ${platform}: ${how}`, ...reasons].join('; '));

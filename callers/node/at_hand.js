@@ -1,11 +1,11 @@
-// The bytes of a source that are at hand: they come in pieces, and are let go once they are passed.
+// The bytes of a source that are at hand: they come in pieces, and are let go when they are passed.
 'use strict';
 const { unfilled } = require('./platform.js');
 
 const MOST = 2 ** 32 - 1; // bytes of room
 const KEPT = 1 << 24; // of room that is kept where none are at hand
 
-// Those from a place on, as far as they came, in room that grows.
+// The bytes from a place on, as far as they came, in room that grows.
 class AtHand {
   #room = new Uint8Array();
   #from = 0;
@@ -31,7 +31,7 @@ class AtHand {
     this.pass(this.place);
   }
 
-  // Lets go of those before the place.
+  // Lets go of the bytes before the place.
   pass(place) {
     const count = Math.min(place - this.#first, this.#to - this.#from);
     this.#from += count;

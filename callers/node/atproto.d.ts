@@ -1,11 +1,11 @@
 /**
- * Repositories and events of the AT Protocol, verified. Whether a file is a repository, and whether
- * a commit is verified, is the judgement of a proved library of its own, which takes memory: the
- * package has it where it was built with it.
+ * Repositories and events of the AT Protocol, verified. A proved library of its own judges if a
+ * file is a repository, and if a commit is verified. It takes memory, and the package has it if it
+ * was built with it.
  */
 import type { AnyCid, CID, Data, DagCborError, EventRefusal, Source } from './index.js';
 
-/** A record's key as a text. A byte that is not of UTF-8 is a surrogate alone, 0xff as `\udcff`. */
+/** A record's key as a text. A byte that is not UTF-8 is a surrogate alone: 0xff is `\udcff`. */
 export type Key = string;
 
 /** What a commit says. */
@@ -14,7 +14,7 @@ export interface Signed {
   readonly rev: string;
   /** The root of the tree. */
   readonly data: CID;
-  /** The commit before, as a rule null. */
+  /** The commit before; null as a rule. */
   readonly prev: CID | null;
   /** The signature, which is not checked. */
   readonly sig: Uint8Array;
@@ -34,23 +34,23 @@ export interface RepoCommit extends Signed {
 }
 
 /**
- * The repository that a CAR file is. The commit and the whole tree are verified; records need
- * not be in the file. Of anything else a DagCborError tells why, in the words of `dagcar records`,
+ * The repository that a CAR file is. The commit and the whole tree are verified; records need not
+ * be in the file. For any other file a DagCborError tells why, in the words of `dagcar records`,
  * and its `kind` is undefined. The file is in memory meanwhile, and a thread of the pool reads it.
  */
 export function readRepo(source: Uint8Array | Source): Promise<Repository>;
 
 /**
- * The commit that the first root of a CAR file names. No other block need be in the file, so
- * that of an event serves, or that of `recordProof`. Of anything else a DagCborError tells why, in
- * the words of `dagcar commit`.
+ * The commit that the first root of a CAR file names. No other block need be in the file, so the
+ * file of an event is enough, or that of `recordProof`. For any other file a DagCborError tells
+ * why, in the words of `dagcar commit`.
  */
 export function readCommit(source: Uint8Array | Source): Promise<RepoCommit>;
 
 /**
- * A CAR file that proves which record the key has, or that it has none: the commit, the nodes
- * on the way to the key, and the record, if there is one. No other blocks need be in the source. Of
- * anything else a DagCborError tells why, in the words of `dagcar record-proof`.
+ * A CAR file that proves which record the key has, or that it has none: the commit, the nodes on
+ * the way to the key, and the record, if there is one. No other blocks need be in the source. For
+ * any other file a DagCborError tells why, in the words of `dagcar record-proof`.
  */
 export function recordProof(
   source: Uint8Array | Source,
@@ -58,8 +58,8 @@ export function recordProof(
 ): Promise<Uint8Array>;
 
 /**
- * Bytes that are no frame, or a commit that is not verified. `node` is the CID of the node of the
- * tree for which it is not verified, of `MissingNode`, `OtherBytes` and `NoNode`; else undefined.
+ * Bytes that are not a frame, or a commit that is not verified. For `MissingNode`, `OtherBytes` and
+ * `NoNode`, `node` is the CID of the tree's node that is at fault; else it is undefined.
  */
 export class EventError extends DagCborError {
   constructor(kind: EventRefusal, message: string, node?: CID);
@@ -74,7 +74,7 @@ export class Frame {
   readonly frame: Uint8Array;
 }
 
-/** What is said to be done with the record of a path: `create`, `update` or `delete`. */
+/** What the host says was done with the record of a path: `create`, `update` or `delete`. */
 export interface RepoOp {
   readonly action: string;
   readonly path: string;
@@ -107,7 +107,7 @@ export class SyncEvent extends Frame {
   readonly time: string;
 }
 
-/** An account whose handle or key may be another. */
+/** An account whose handle or key may have changed. */
 export class IdentityEvent extends Frame {
   readonly seq: number | bigint;
   readonly did: string;
@@ -115,7 +115,7 @@ export class IdentityEvent extends Frame {
   readonly time: string;
 }
 
-/** Whether the host serves the repository of an account, and why not. */
+/** Says if the host serves the repository of an account, and why not. */
 export class AccountEvent extends Frame {
   readonly seq: number | bigint;
   readonly did: string;
@@ -124,7 +124,7 @@ export class AccountEvent extends Frame {
   readonly time: string;
 }
 
-/** What the host tells of the stream. */
+/** What the host tells about the stream. */
 export class InfoEvent extends Frame {
   readonly name: string;
   readonly message: string | null;
@@ -168,7 +168,7 @@ export interface Change {
 export interface Verified extends Signed {
   /** The root of the tree before. */
   readonly before: CID;
-  /** Of the commit itself. */
+  /** The CID of the commit itself. */
   readonly commit: CID;
   /** The operations, in their order. */
   readonly changes: readonly Change[];
@@ -178,23 +178,24 @@ export interface Verified extends Signed {
 
 /**
  * The frame at the front of bytes, such as a message of a stream, and the bytes after it, which lie
- * over the same memory. An EventError tells why there is none. Nothing of a commit is verified yet.
+ * over the same memory. If there is none an EventError tells why. Nothing of a commit is verified
+ * yet.
  */
 export function readEvent(bytes: Uint8Array): [Event, Uint8Array];
 
 /**
- * The frames that stand one after the other, in bytes or a stream of them. The first that is none
- * throws an EventError, and ends it. In memory are the frame that is read, and a piece of the
- * source.
+ * The frames in bytes or in a stream of them, one after the other. The first that is not a frame
+ * throws an EventError, and ends the iteration. The frame that is read, and a piece of the source,
+ * are in memory.
  */
 export function readEvents(source: Uint8Array | Source): AsyncGenerator<Event, void, undefined>;
 
 /**
- * What is verified of a commit, by its frame alone: an event that was read, or the frame's bytes.
- * It is verified against what is known of the repository, which is `known` of the last commit that
- * was verified, or of a whole one that was read `{ root: repo.data, rev: repo.rev }`. Else an
- * EventError tells why it is not. That the commit is signed by the account's key is left to the
- * caller.
+ * Verifies a commit by its frame alone: an event that was read, or the frame's bytes. It is
+ * verified against what is known of the repository: `known` of the last commit that was verified,
+ * or `{ root: repo.data, rev: repo.rev }` of a whole repository that was read. If it is not
+ * verified an EventError tells why. The caller has to check that the account's key signed the
+ * commit.
  */
 export function verifyEvent(
   event: { readonly frame: Uint8Array } | Uint8Array,

@@ -2,5 +2,5 @@
 'use strict';
 const { EventError } = require('./atproto_errors.js');
 
-// In such a way that `import` finds each name.
+// Written so that `import` finds each name.
 module.exports = { ...require('./atproto_events.js'), ...require('./atproto_repo.js'), EventError };

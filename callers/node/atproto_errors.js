@@ -4,7 +4,7 @@ const { memory } = require('./atproto_library.js');
 const { CID } = require('./cid.js');
 const { DagCborError } = require('./errors.js');
 
-// `node` is the CID of the node for which it is not verified; else undefined.
+// `node` is the CID of the node at fault; else undefined.
 class EventError extends DagCborError {
   constructor(kind, message, node) {
     super(kind, message);

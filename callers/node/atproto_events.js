@@ -39,10 +39,10 @@ const FIELDS = [
 ];
 const OPERATION = ['action', 'path', 'cid', 'prev'];
 
-// Those of the fields that the map has, and null for the others.
+// The fields that the map has, and null for the others.
 const fieldsOf = (map, names) => Object.fromEntries(names.map((it) => [it, map[it] ?? null]));
 
-// The frame of this kind, by the number of the library.
+// The frame of this kind, given by the number of the library.
 const eventOf = (kind, frame, place) => {
   const body = decode(view(frame, place, lengthOf.call(frame)));
   if (FIELDS[kind] === undefined) {
@@ -54,7 +54,7 @@ const eventOf = (kind, frame, place) => {
   return new Event({ ...fields, frame });
 };
 
-// The frame at the front of bytes of which the library tells, and where it ends.
+// The frame at the front of bytes, as the library tells it, and where it ends.
 const eventIn = (bytes, told) => {
   if (typeof told === 'number') throw eventRefusal(told);
   const [kind, body, end] = told;
@@ -93,7 +93,7 @@ const eventsOf = async function* (source) {
 
 const readEvents = (source) => eventsOf(piecesOf(source));
 
-// The bytes of the root and of the revision that are known, or none.
+// The bytes of the root and of the revision that are known, or of none.
 const knownOf = (known) => {
   if (known === undefined || known === null) return [NOTHING, NOTHING];
   const { root, rev } = known;

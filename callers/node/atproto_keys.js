@@ -1,5 +1,5 @@
-// Keys of records as texts. A key may have any bytes: each that is not of UTF-8 is a surrogate
-// alone, from \udc80 to \udcff, as Python's `surrogateescape` has it.
+// Keys of records as texts. A key may have any bytes: each that is not UTF-8 is a surrogate alone,
+// from \udc80 to \udcff, like in Python's `surrogateescape`.
 'use strict';
 const { fromLatin1, isAlone, isBytes, joined, whole } = require('./bytes.js');
 const { DagCborError } = require('./errors.js');
@@ -8,7 +8,7 @@ const { latin1, utf8 } = require('./platform.js');
 const [ESCAPE, LEAST] = [0xdc00, 0x80];
 const encoder = new TextEncoder();
 
-// Characters of UTF-8 whose bytes are units, or a byte that is of none.
+// Characters of UTF-8, each as its bytes, or a byte that belongs to none.
 const PARTS = new RegExp(
   '((?:[\\0-\\x7f]|[\\xc2-\\xdf][\\x80-\\xbf]|\\xe0[\\xa0-\\xbf][\\x80-\\xbf]' +
     '|[\\xe1-\\xec\\xee\\xef][\\x80-\\xbf]{2}|\\xed[\\x80-\\x9f][\\x80-\\xbf]' +
@@ -34,7 +34,7 @@ const partOf = (part) => {
   return encoder.encode(part);
 };
 
-// A copy of the bytes of a key, or those that a text is the text of.
+// A copy of the bytes of a key, or the bytes that a text stands for.
 const bytesOfKey = (key) => {
   if (isBytes(key)) return whole(key).slice();
   if (typeof key !== 'string') throw new TypeError('a key is a text or a Uint8Array');

@@ -1,4 +1,4 @@
-// What answers the library's calls that take memory: an addon of its own, over one of its own.
+// Answers the library's calls that take memory: an addon of its own, over a library of its own.
 'use strict';
 const { addonOf, addonPaths, lacking } = require('./addons.js');
 

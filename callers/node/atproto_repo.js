@@ -10,7 +10,7 @@ const { latin1 } = require('./platform.js');
 
 const NOTHING = new Uint8Array();
 
-// What the call says of the file that comes; or the line that tells why there is nothing to say.
+// What the call says about the file that comes; or the line that tells why there is nothing to say.
 const told = async (call, source, key = NOTHING) => {
   const file = new AtHand();
   for await (const piece of piecesOf(source)) file.put(whole(piece));

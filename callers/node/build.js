@@ -1,16 +1,15 @@
 // Compiles the addons into out/, with the proved libraries inside.
 //
 // The library of the first, dagcbor.node, is that of the environment variable DAGCBOR_LIBRARY; else
-// that which a release has in lib/, and include/; else that of this repository, which is proved and
-// built first where it is not there and `rt` is. The second, dagcbor_memory.node, which
-// `dagcbor/atproto` alone wants, is compiled where its library is there: DAGCBOR_MEMORY_LIBRARY, or in
-// one of these places. Where DAGCBOR_MODULE names a WebAssembly module that is put there, in the
-// place of the addons. The program of stores goes beside them: that of DAGSTORE, or of this
-// repository.
+// the one that a release has in lib/, and include/; else that of this repository. If that is not
+// there and `rt` is, it is proved and built first. The second, dagcbor_memory.node, which only
+// `dagcbor/atproto` needs, is compiled if its library is there: DAGCBOR_MEMORY_LIBRARY, or in one
+// of these places. If DAGCBOR_MODULE names a WebAssembly module, that is put there, in place of the
+// addons. The program of stores goes beside them: that of DAGSTORE, or of this repository.
 //
-// `node build.js --install`, which npm runs, compiles nothing where an addon of the release loads.
-// Where one is wanted and none is compiled, it leaves the WebAssembly module to answer, if the package
-// has one.
+// `node build.js --install`, which npm runs, compiles nothing if an addon of the release loads. If
+// one is needed and none can be compiled, it leaves the WebAssembly module to answer, if the
+// package has one.
 'use strict';
 const { execFileSync } = require('child_process');
 const { chmodSync, copyFileSync, existsSync, mkdirSync, realpathSync, rmSync } = require('fs');
@@ -21,7 +20,7 @@ const crateOf = (name) => join(__dirname, '../../crates', name);
 const machine = { x64: 'x86_64', arm64: 'aarch64' }[process.arch] ?? process.arch;
 const carriedOf = (name) => join(__dirname, 'lib', machine, name);
 
-// Where the library of a crate is, if it is there.
+// The path of the library of a crate, if it is there.
 const pathOf = (crate, variable) => {
   const carried = carriedOf(`lib${crate}.a`);
   const own = existsSync(carried) ? carried : join(crateOf(crate), `out/lib${crate}.a`);
@@ -42,7 +41,7 @@ const library = () => {
   return path;
 };
 
-// The one that takes memory; nothing where none is named and none is there.
+// The one that takes memory; nothing if none is named and none is there.
 const memoryLibrary = () => {
   const path = pathOf('dagcbor_memory_ffi', 'DAGCBOR_MEMORY_LIBRARY');
   if (existsSync(path)) return path;
@@ -50,7 +49,7 @@ const memoryLibrary = () => {
   return undefined;
 };
 
-// The headers of Node-API, which stand beside its program or where Debian has them.
+// The headers of Node-API, which are beside its program, or in Debian's place for them.
 const headers = () => {
   const beside = join(dirname(realpathSync(process.execPath)), '../include/node');
   const places = [beside, '/usr/include/node'];
@@ -63,7 +62,8 @@ const headers = () => {
 const compile = (name, sources, archive) => {
   const [cc, ...words] = (process.env.CC || 'cc').split(' ');
   const flags = ['-std=c11', '-O3', '-Wall', '-Wextra', '-shared', '-fPIC'];
-  // Nothing is shown of the library, and all that is wanted is found at once, or the addon does not load.
+  // The addon exports nothing of the library, and finds at once all that it needs, or does not
+  // load.
   const hidden = ['-fvisibility=hidden', '-Wl,--exclude-libs,ALL', '-Wl,-z,now'];
   const more = (process.env.CFLAGS || '').split(' ').filter(Boolean);
   const crates = ['dagcbor_ffi', 'dagcbor_memory_ffi'].map((it) => join(crateOf(it), 'include'));

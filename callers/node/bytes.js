@@ -7,7 +7,7 @@ const [tagOf, bufferOf, offsetOf, lengthOf] = [Symbol.toStringTag, 'buffer', 'by
   .map((name) => getterOf(above, name));
 const sizeOf = getterOf(ArrayBuffer.prototype, 'byteLength');
 
-// Memory that is shared with other threads is no ArrayBuffer.
+// Memory that is shared with other threads is not an ArrayBuffer.
 const isOwn = (buffer) => {
   try {
     return sizeOf.call(buffer) >= 0;
@@ -16,14 +16,14 @@ const isOwn = (buffer) => {
   }
 };
 
-// Whether it is a Uint8Array, of whatever realm, over memory that is not shared.
+// True if it is a Uint8Array, of any realm, over memory that is not shared.
 const isBytes = (value) => tagOf.call(value) === 'Uint8Array' && isOwn(bufferOf.call(value));
 
 // A Uint8Array of no other class over the same memory.
 const view = (bytes, from, to) =>
   new Uint8Array(bufferOf.call(bytes), offsetOf.call(bytes) + from, to - from);
 
-// The bytes by no other class: those that are detached are none.
+// The bytes as a plain Uint8Array: if they are detached there are none.
 const whole = (bytes) => {
   if (!isBytes(bytes)) {
     throw new TypeError('a Uint8Array over memory that is not shared is wanted');
@@ -38,7 +38,7 @@ const pieces = function* (bytes) {
   for (let at = 0; at < bytes.length; at += PIECE) yield bytes.subarray(at, at + PIECE);
 };
 
-// What gives the bytes of a source in pieces: of bytes themselves, or of what is iterated.
+// Gives the bytes of a source in pieces: from bytes themselves, or from what is iterated.
 const piecesOf = (source) => {
   const given = tagOf.call(source) === 'Uint8Array' ? pieces(whole(source)) : source;
   if (given?.[Symbol.asyncIterator] ?? given?.[Symbol.iterator]) return given;
@@ -51,14 +51,14 @@ const joined = (parts) => {
   return all;
 };
 
-// The bytes of a text of one unit for each.
+// The bytes of a text that has one unit for each.
 const fromLatin1 = (text) => {
   const bytes = new Uint8Array(text.length);
   for (let i = 0; i < text.length; i++) bytes[i] = text.charCodeAt(i);
   return bytes;
 };
 
-// Whether a text has a surrogate that has no other.
+// True if a text has a surrogate without its pair.
 const isAlone = (text) => /[\ud800-\udfff]/.test(text) && /\p{Surrogate}/u.test(text);
 
 module.exports = { fromLatin1, isAlone, isBytes, joined, lengthOf, piecesOf, view, whole };

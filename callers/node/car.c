@@ -1,5 +1,5 @@
-/* CAR files for Node: a thread of the pool goes through the sections that stand whole in the bytes
-   at hand, which car_walk.js keeps, and does not write meanwhile. It asks for one thing at a time. */
+/* CAR files for Node: a thread of the pool reads the sections that stand whole in the bytes at
+   hand, which car_walk.js keeps, and does not write meanwhile. It asks for one thing at a time. */
 #include "addon.h"
 
 #include "car.h"
@@ -29,7 +29,7 @@ static void walk_free(napi_env env, void *given, void *hint) {
     free(walk);
 }
 
-/* Tells the sections at hand, as far as so many bytes. Answers why it stopped, or 0. */
+/* Tells the sections at hand, up to this many bytes. Returns why it stopped, or 0. */
 static int32_t tell_sections(Walk *walk, size_t most) {
     Car *car = &walk->check.car;
     size_t places[3];
@@ -83,7 +83,7 @@ static napi_value walk_end(napi_env env, Work *work, bool is_done) {
     return is_done ? answer_of(env, walk) : no_memory(env);
 }
 
-/* carOpen(isCheck): a walk through a file of which nothing was seen. */
+/* carOpen(isCheck): a walk through a file of which nothing is read yet. */
 napi_value car_open(napi_env env, napi_callback_info info) {
     size_t count = 1;
     napi_value given, answer;
@@ -102,7 +102,7 @@ napi_value car_open(napi_env env, napi_callback_info info) {
     return answer;
 }
 
-/* The walk that is the first of so many arguments, where no work is on its way. */
+/* The walk that is the first of this many arguments, if no work is on its way. */
 static Walk *walk_of(napi_env env, napi_callback_info info, size_t count, napi_value *given) {
     void *walk;
     TRY(napi_get_cb_info(env, info, &count, given, NULL, NULL));
@@ -110,7 +110,7 @@ static Walk *walk_of(napi_env env, napi_callback_info info, size_t count, napi_v
     return ((Walk *)walk)->is_busy ? raise(env, "the walk is already at work") : walk;
 }
 
-/* The script that computes SHA-256, of blocks of so many bytes or more. */
+/* The script that computes SHA-256, for blocks of this many bytes or more. */
 typedef struct {
     napi_env env;
     napi_value call;
@@ -145,9 +145,10 @@ static napi_value go_here(napi_env env, Walk *walk, Script *script) {
     return answer_of(env, walk);
 }
 
-/* carGo(walk, bytes, isWhole, sha256, least): what is found in the bytes at hand, which begin at the
- * place where it stopped; whether none follow them. Where a script computes digests, or null, the
- * answer is of this thread; else a promise of it, by a thread of the pool. */
+/* carGo(walk, bytes, isWhole, sha256, least): what is found in the bytes at hand, which begin at
+ * the place where it stopped; isWhole says if none follow them. If sha256 is a script, which
+ * computes digests, or null, this thread answers; else it returns a promise of the answer, by a
+ * thread of the pool. */
 napi_value car_go(napi_env env, napi_callback_info info) {
     napi_value given[5], kept;
     napi_valuetype type;

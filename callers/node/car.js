@@ -16,7 +16,7 @@ const keyOf = (cid) => binaryOf(cid) ?? latin1(bytesOf(cid));
 const verdictOf = (code) =>
   OTHERS[code] ?? (code < 0 ? `refused ${REASONS[code][0]}` : `ok ${KINDS[code]}`);
 
-// What is said of a block that came under a name.
+// The verdict on a block that came under a name.
 const verify = (cid, bytes) => {
   const code = native.verify(bytesOf(cid), bytes);
   if (code < LEAST) throw refusal(code);
@@ -51,7 +51,7 @@ const indexOf = (bytes, place, from, [code, cid, block, end]) => ({
   verdict: verdictOf(code),
 });
 
-// What is told of the front of a file.
+// What is told about the front of a file.
 let rootsOf;
 class Opened {
   #front;
@@ -97,7 +97,7 @@ class CarIndexer extends iteratorOf(indexOf) {}
 
 const isVerified = ({ verdict }) => verdict !== 'other bytes' && verdict !== 'not verified';
 
-// Of each name the first section that is verified.
+// For each name, the first section that is verified.
 const byName = (sections) => {
   const named = new Map();
   for (const it of sections) {
@@ -180,7 +180,7 @@ class Sections extends Opened {
   }
 }
 
-// The block at a place of an open file, and what is said of it.
+// The block at a place of an open file, and the verdict on it.
 const blockAt = async (file, { cid, blockOffset, blockLength }) => {
   const bytes = await readAt(file, blockLength, blockOffset);
   if (bytes.length !== blockLength) throw refusal(TRUNCATED);

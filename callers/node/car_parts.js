@@ -32,8 +32,8 @@ const blockLength = ({ cid, bytes }) => {
   return varint(length).length + length;
 };
 
-// How long the header is of roots of these lengths. A link has a tag, which is of two bytes, and then a
-// byte string of a zero and the CID.
+// How long the header is for roots of these lengths. A link has a tag, which takes two bytes, and
+// then a byte string of a zero and the CID.
 const calculateHeaderLength = (lengths) => {
   const roots = lengths.map((it) => new Uint8Array(1 + it));
   const length = encode({ roots, version: 1 }).length + 2 * lengths.length;

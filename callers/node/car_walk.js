@@ -1,5 +1,4 @@
-// A CAR file that is gone through: its bytes are kept as they come, and the library says what stands
-// in them.
+// Reads a CAR file: its bytes are kept as they come, and the library says what stands in them.
 'use strict';
 const { native } = require('./library.js');
 const { AtHand } = require('./at_hand.js');
@@ -13,7 +12,7 @@ const CALL_LEAST = 1 << 13; // bytes of a block: of less the library is quicker 
 class CarError extends DagCborError {}
 CarError.prototype.name = 'CarError';
 
-// Of the header a fault may be the refusal of a block.
+// A fault of the header may be the refusal of a block.
 const faultOf = (code, place) => {
   const [kind, reason] = REASONS[code] ?? [undefined, code];
   if (code < LEAST) return new CarError(kind, reason, place);
@@ -50,7 +49,8 @@ class Walk {
     if (code < 0) throw faultOf(code, end);
   }
 
-  // What is found in the bytes at hand. Answers whether it is the end, and not that more is wanted.
+  // What is found in the bytes at hand. Returns true at the end, and false if more bytes are
+  // needed.
   async *#through(isWhole) {
     for (;;) {
       const answer = await this.#go(isWhole, this.#sha256);
@@ -74,7 +74,7 @@ class Walk {
     return this;
   }
 
-  // The same of bytes in memory, by the calling thread.
+  // The same for bytes in memory, by the calling thread.
   *through(bytes) {
     const pieces = [...piecesOf(whole(bytes)), new Uint8Array()];
     for (let i = 0; i < pieces.length; i++) {

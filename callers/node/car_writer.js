@@ -1,4 +1,4 @@
-// CAR files that are written: index.d.ts says what each call does.
+// Writes CAR files: index.d.ts says what each call does.
 'use strict';
 const { whole } = require('./bytes.js');
 const {
@@ -43,7 +43,7 @@ const channel = () => {
   return { put, close, out };
 };
 
-// The header of other roots, which takes the place of that of the file, if it fits.
+// The header of other roots, which takes the place of the file's header, if it fits.
 const headerInPlace = async (source, roots) => {
   const { front } = await new Walk().begin(source);
   const header = headerOf(roots);

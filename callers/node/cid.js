@@ -1,5 +1,5 @@
-// CIDs, with the names of the package `multiformats`. Whether bytes or a text are one is the
-// library's judgement.
+// CIDs, with the names of the package `multiformats`. The library judges if bytes or a text are a
+// CID.
 'use strict';
 const { native } = require('./library.js');
 const { fromLatin1, isBytes, lengthOf, view, whole } = require('./bytes.js');
@@ -11,7 +11,7 @@ const MADE = Symbol('made'); // by the library
 let binaryOf; // a CID's binary form, as a text of one unit for each byte; of others undefined
 const isUnits = (text) => /^[\0-\xff]*$/.test(text);
 
-// What a CID of another package says that its binary form is, as `multiformats` tells such ones.
+// What a CID of another package says is its binary form. `multiformats` recognizes such CIDs.
 const foreignOf = (value) => {
   if (typeof value !== 'object' || value === null) return undefined;
   const { bytes } = value;
@@ -19,8 +19,8 @@ const foreignOf = (value) => {
   return isTold && isBytes(bytes) ? latin1(bytes) : undefined;
 };
 
-// The binary form of a CID of this package that lost its class: a clone, as by `postMessage`, has its
-// property alone. No data has such a text, which is an object.
+// The binary form of a CID of this package that lost its class: a clone, as by `postMessage`, has
+// only its property. No data has such a text, which is an object.
 const MARK = 'binary';
 const clonedOf = (value) => {
   const binary = value?.[MARK];
@@ -43,7 +43,7 @@ const numberOf = (n) => {
   throw new TypeError('a number of a CID is an integer from 0 to 2^53 - 1');
 };
 
-// What the front of a CID says, whose bytes they are, and where the multihash and its digest begin. Of
+// What the front of a CID says, from its bytes, and where the multihash and its digest begin. For
 // other bytes it says something too.
 const frontOf = (bytes) => {
   let at = 0;
@@ -61,14 +61,14 @@ const frontOf = (bytes) => {
   return { version, code, hash, size, begin, end: at };
 };
 
-// The parts of a CID, whose bytes they are.
+// The parts of a CID, from its bytes.
 const partsOf = (bytes) => {
   const { version, code, hash, size, begin, end } = frontOf(bytes);
   const multihash = { code: hash, size, digest: bytes.subarray(end), bytes: bytes.subarray(begin) };
   return { version, code, multihash };
 };
 
-// What the front of a CID says at the front of bytes, if that of any digest is a CID.
+// What the front of a CID at the front of bytes says, if a CID can begin so.
 const [FRONT, DIGEST] = [40, 64]; // bytes at most, of four numbers and of a digest
 const inspected = (bytes) => {
   const front = bytes.subarray(0, FRONT);
@@ -81,7 +81,8 @@ const inspected = (bytes) => {
   return { version, codec, multihashCode: hash, digestSize, multihashSize, size: any.length };
 };
 
-// The bytes of a CID, of this package or another: of one's own a copy of what nobody can change.
+// The bytes of a CID, of this package or another: for one of this package, a copy of what nobody
+// can change.
 const bytesOf = (cid) => {
   const binary = binaryOf(cid) ?? clonedOf(cid);
   if (binary !== undefined) return fromLatin1(binary);

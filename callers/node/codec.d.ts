@@ -7,11 +7,11 @@ import type { Data } from './index.js';
 export const name: 'dag-cbor';
 export const code: 0x71;
 
-/** The one block of a value, as `encode` of `dagcbor`. */
+/** The one block of a value, like `encode` of `dagcbor`. */
 export function encode(value: unknown): Uint8Array;
 
-/** The data of a block, as `decode` of `dagcbor`, also out of an ArrayBuffer. */
+/** The data of a block, like `decode` of `dagcbor`, also from an ArrayBuffer. */
 export function decode<T = Data>(block: Uint8Array | ArrayBuffer): T;
 
-/** The data of the first item, and the bytes behind it. */
+/** The data of the first item, and the bytes after it. */
 export function decodeFirst<T = Data>(bytes: Uint8Array): [T, Uint8Array];

@@ -30,13 +30,14 @@ export function decode(block: Uint8Array | ArrayBuffer): PBNode;
 export function links(block: Uint8Array | ArrayBuffer): CID[];
 
 /**
- * The one canonical block of a node. What is not of this shape is refused as `NotANode`, and links
- * that are not sorted by the bytes of their names as `UnsortedLinks`: `prepare` sorts them.
+ * The one canonical block of a node. If the node does not have this shape it is refused as
+ * `NotANode`, and if its links are not sorted by the bytes of their names as `UnsortedLinks`:
+ * `prepare` sorts them.
  */
 export function encode(node: PBNode): Uint8Array;
 
 /**
- * The node that something is meant as: bytes or a text are its data, and links are CIDs, or have one as
+ * The node that a value means: bytes or a text are its data, and links are CIDs, or have one as
  * `Hash`, in any order.
  */
 export function prepare(node: unknown): PBNode;
@@ -45,5 +46,5 @@ export function createNode(data: Uint8Array | string | undefined, links?: unknow
 
 export function createLink(name: string, size: number, cid: CID): PBLink;
 
-/** Throws where `encode` would. */
+/** Throws if `encode` would. */
 export function validate(node: PBNode): void;

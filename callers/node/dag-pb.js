@@ -16,7 +16,7 @@ const encoder = new TextEncoder();
 const no = (said) => { throw new TypeError(`Invalid DAG-PB form (${said})`); };
 const isObject = (value) => typeof value === 'object' && value !== null && !Array.isArray(value);
 
-// What is said of a block, or its refusal with the place.
+// The answer for a block, or its refusal with the place.
 const of = (call) => (bytes) => {
   const block = bytes instanceof ArrayBuffer ? new Uint8Array(bytes) : bytes;
   return answered(call(block), () => native.placeInNode(block));
@@ -25,7 +25,7 @@ const of = (call) => (bytes) => {
 const decode = (bytes) => decodeModel(of(native.fromNode)(bytes));
 const links = (bytes) => unpack(of(native.nodeLinks)(bytes));
 
-// Without what is told to be undefined.
+// Without properties that are undefined.
 const told = (value) => (isObject(value) && !CID.asCID(value)
   ? Object.fromEntries(Object.entries(value).filter(([, it]) => it !== undefined))
   : value);
@@ -50,15 +50,15 @@ const asLink = (link) => {
   return made;
 };
 
-// By the bytes of the names, of which none counts as the empty one.
+// By the bytes of the names. A missing name counts as the empty one.
 const order = ({ key: one }, { key: other }) => (one < other ? -1 : Number(one > other));
 const sorted = (links) => {
   const named = links.map((link) => ({ link, key: latin1(encoder.encode(link.Name ?? '')) }));
   return named.sort(order).map(({ link }) => link);
 };
 
-// The node that something is meant as: bytes or a text are its data, links are CIDs, or have one as
-// `Hash`, in any order.
+// The node that a value means: bytes or a text are its data, links are CIDs, or have one as `Hash`,
+// in any order.
 const prepare = (given) => {
   const node = typeof given === 'string' || isBytes(given) ? { Data: given } : given;
   if (!isObject(node)) no('no object');
@@ -75,7 +75,7 @@ const prepare = (given) => {
 const createNode = (data, links = []) => prepare({ Data: data, Links: links });
 const createLink = (linkName, size, cid) => asLink({ Hash: cid, Name: linkName, Tsize: size });
 
-// Throws where `encode` would.
+// Throws if `encode` would.
 const validate = (node) => { encode(node); };
 
 module.exports = { name, code, decode, encode, links, prepare, createNode, createLink, validate };

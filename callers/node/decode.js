@@ -1,6 +1,6 @@
-// Values out of the tokens of a block, which the library tells: nothing is parsed here.
+// Makes values from the tokens of a block, which the library tells: nothing is parsed here.
 //
-// No script of others runs from the first token to the last, so the block stays as it was judged:
+// No foreign script runs from the first token to the last, so the block stays as it was judged:
 // lists and maps get their values as properties of their own, and no setter is called.
 'use strict';
 const { native } = require('./library.js');
@@ -14,12 +14,12 @@ const [NULL, BOOL, INTEGER, STRING, BYTES, LIST, MAP, LINK, NEGATIVE, ASCII, LAT
   Array(12).keys();
 const TRAILING_DATA = -14;
 
-// Three words for each token: its kind, its number, its place; of an integer the number's low word
-// and its high one. They stand in `kept`, or where they are many in an array of their own.
+// Three words for each token: its kind, its number, its place; for an integer the number's low word
+// and its high one. They are in `kept`, or in an array of their own if there are many.
 const { read, texts, kept } = native;
 let [words, block, at, turn] = [kept, undefined, 0, 0];
 
-// A text of a byte for each unit. A short one is cut out of a longer one, which then stays alive.
+// A text with a byte for each unit. A short one is cut out of a longer one, which then stays alive.
 const [WINDOW, LONGEST] = [1024, 64];
 let [cut, cutFrom, cutTo] = ['', 0, 0];
 
@@ -47,7 +47,7 @@ const linkAt = (from, length) => {
   return cidOf(links.slice(from - linksFrom, to - linksFrom));
 };
 
-// Texts beyond ASCII, of which some that come have parts: one of a byte for each unit, and another.
+// Texts beyond ASCII. Some that come have parts: a text with one byte for each unit, and another.
 let [narrow, wide] = ['', ''];
 
 const textAt = (i) => {
@@ -62,8 +62,8 @@ const textAt = (i) => {
   return (words[i] === LATIN1 ? narrow : wide).slice(from, from + number);
 };
 
-// Keys in the order in which maps had them: each knows those that were met behind it, the last one
-// as `next`. `units` are those of the key, and `turn` is the last one in which it was no property
+// Keys in the order in which maps had them: each knows those that came after it, the last one as
+// `next`. `units` are those of the key, and `turn` is the last one in which it was not a property
 // of every object.
 const [MOST_KEYS, MOST_OTHERS] = [4096, 64];
 const newKey = (text) => {
@@ -90,7 +90,7 @@ const otherKey = (before, i) => {
   return found;
 };
 
-// The key of that token, behind another one. One of ASCII is told by its bytes.
+// The key of that token, after another one. One of ASCII is told by its bytes.
 const keyBehind = (before, i) => {
   const { next } = before;
   if (next === undefined || words[i] !== ASCII) return otherKey(before, i);
@@ -138,7 +138,7 @@ const nextMap = (count) => {
   return map;
 };
 
-// One that is a dictionary anyway: nothing is above it until it is full.
+// A dictionary anyway: nothing is above it until it is full.
 const wideMap = (count) => {
   const map = Object.create(null);
   for (let left = count; left > 0; left--) {
@@ -175,7 +175,7 @@ const bytesAt = (from, length) => {
   return made;
 };
 
-// A number where it is a safe one, and else a BigInt.
+// A number if it is a safe one, and else a BigInt.
 const integer = (low, high, isNegative) => {
   const n = high * 2 ** 32 + low;
   const number = isNegative ? -1 - n : n;
@@ -221,7 +221,7 @@ const decode = (bytes) => {
   return value;
 };
 
-// The value of the first item, and the bytes behind it.
+// The value of the first item, and the bytes after it.
 const decodeFirst = (bytes) => {
   const length = lengthOf.call(bytes);
   const end = native.check(bytes) === TRAILING_DATA ? native.place(bytes) : length;

@@ -18,8 +18,8 @@ const APART = 1 << 16; // bytes of a byte string that may be put into the block 
 const WORTH = 256; // bytes of these for each token
 const { shared: SHARED, spell, words: OWN_WORDS, payload: OWN_PAYLOAD } = native;
 
-// Short blocks, of up to SHARED bytes, lie one behind the other in a pool, up to `used`: memory of
-// its own takes longer than all else of a short block.
+// Short blocks, of up to SHARED bytes, lie one after the other in a pool, up to `used`: memory of
+// its own takes longer than all else for a short block.
 const POOL = 8192;
 let [pool, used] = [newPool(POOL), 0];
 
@@ -71,7 +71,7 @@ class Tape {
     if (wanted > this.payload.length) this.payload = longer(this.payload, wanted);
   }
 
-  // Puts bytes, and answers where.
+  // Puts bytes, and returns where.
   place(bytes, length) {
     this.room(length);
     const { used } = this;
@@ -97,8 +97,8 @@ class Tape {
     }
   }
 
-  // Puts them as all others, unless they are so long beside the tokens that it is worth it to judge these
-  // once more.
+  // Puts them like all others, unless they are so long beside the tokens that it pays to judge
+  // these once more.
   join() {
     if ((this.at / WORDS) * WORTH <= this.more) return;
     this.more = 0;
@@ -115,7 +115,7 @@ class Tape {
     this.levels += 1;
   }
 
-  // Puts the payloads of texts and links. With a pool it answers the block, which lies there if the
+  // Puts the payloads of texts and links. With a pool it returns the block, which lies there if the
   // answer is its length.
   settle(into, from) {
     this.room(3 * this.texts.length + 1);
@@ -166,7 +166,7 @@ class Tape {
     throw new DagCborError(kind, said ?? reason, [...this.way(end), ...more]);
   }
 
-  // The first whose payload was not put has no UTF-8.
+  // The first whose payload was not put is not UTF-8.
   noText() {
     let at = this.settled * WORDS;
     while (this.words[at + 4] !== ABSENT) at += WORDS;
@@ -202,7 +202,7 @@ const putList = (tape, list) => {
 const shorterFirst = (one, other) => one.length - other.length || (one < other ? -1 : 1);
 const isPlain = (texts) => /^[\0-\x7f]*$/.test(texts.join(''));
 
-// Where the keys stand that come first, second and so on.
+// The places of the keys that come first, second and so on.
 const sorted = (tape, keys) => {
   const inUtf8 = (key) => (isAlone(key) ? tape.no(UTF8, LONE, [key]) : latin1(encoder.encode(key)));
   const spelt = isPlain(keys) ? keys : keys.map(inUtf8);
@@ -210,7 +210,7 @@ const sorted = (tape, keys) => {
   return places.sort((one, other) => shorterFirst(spelt[one], spelt[other]));
 };
 
-// Objects with the same few keys are many: their orders are kept, and from the second one on the
+// Many objects have the same few keys: their orders are kept, and from the second object on the
 // keys' UTF-8, of which one tape has a copy.
 const [SLOTS, MOST_KEYS, MOST_UNITS, ODD] = [1024, 128, 1024, 0x9e3779b1];
 const newOrder = (keys, places) => {
@@ -294,8 +294,8 @@ const putEntries = (tape, map, values, order) => {
   tape.levels -= 1;
 };
 
-// Of an object's own properties those that are enumerable, and have texts as keys; unless it is a
-// CID that lost its class, as `multiformats` tells one. Each value is read once.
+// The own properties of an object that are enumerable and have texts as keys; unless it is a CID
+// that lost its class, as `multiformats` tells one. Each value is read once.
 const putMap = (tape, map) => {
   const keys = Object.keys(map);
   if (keys.length === 0 && hasInside(map)) tape.no(UNSUPPORTED, OTHER);
@@ -322,7 +322,7 @@ const [CHANGED, OTHER, PROXY] = [
   'a Proxy of neither an Array nor a plain object',
 ];
 
-// What is neither a list nor a plain object.
+// A value that is neither a list nor a plain object.
 const putOther = (tape, value) => {
   if (isBytes(value)) return tape.putBytes(value, lengthOf.call(value));
   const binary = binaryOf(value) ?? foreignOf(value);
@@ -335,7 +335,7 @@ const putOther = (tape, value) => {
   return putMap(tape, value);
 };
 
-// Whether its prototype is null, or that of objects in some realm, which has none itself.
+// True if its prototype is null, or that of objects in some realm, which has none itself.
 const isPlainObject = (value) => {
   const above = Object.getPrototypeOf(value);
   return above === Object.prototype || above === null || Object.getPrototypeOf(above) === null;
@@ -360,8 +360,8 @@ const putValue = (tape, value) => {
   }
 };
 
-// The block with the long byte strings in the places of the empty ones, of which the library tells
-// where they stand. It judges this block too.
+// The block with the long byte strings in place of the empty ones; the library tells where these
+// stand. It judges this block too.
 const HEAD = 5; // bytes of a head of a length from 2^16 to 2^32
 
 const filled = (tape, empty) => {

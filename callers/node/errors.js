@@ -1,4 +1,4 @@
-// What is said of bytes, by the numbers of the library.
+// What is said about bytes, by the numbers of the library.
 'use strict';
 
 const KINDS = ['null', 'bool', 'integer', 'string', 'bytes', 'list', 'map', 'link'];
@@ -7,14 +7,14 @@ const REASONS = {
   9: ['NotRead', 'the block is of another codec than DAG-CBOR'],
   [-1]: ['Msg', 'no CID'],
   [-3]: ['Eof', 'the bytes end too early'],
-  [-4]: ['Mismatch', 'a key that is no text, or another tag than that of a link'],
+  [-4]: ['Mismatch', 'a key that is not a text, or another tag than that of a link'],
   [-5]: [
     'Unsupported',
     'a float or another simple value, a link without a byte string, or a reserved width',
   ],
   [-8]: ['RequireUtf8', 'a text that is not UTF-8'],
   [-10]: ['CastOverflow', 'an integer that is not in -2^64 .. 2^64 - 1'],
-  [-12]: ['DepthOverflow', 'lists and maps are in each other too deep'],
+  [-12]: ['DepthOverflow', 'lists and maps are nested too deep'],
   [-14]: ['TrailingData', 'bytes after the item'],
   [-15]: ['IndefiniteSize', 'an indefinite length or a break'],
   [-16]: ['NonMinimal', 'a number or a length in more bytes than it needs'],
@@ -33,7 +33,7 @@ const REASONS = {
   [-32]: ['TrailingBits', 'bits that are not zero stand after the last byte'],
   [-33]: ['LeadingZero', 'the text begins with a zero byte, as no CID does'],
   [-34]: ['InvalidVersion', 'version 0 has no prefix, and version 1 has one'],
-  [-35]: ['InvalidOffset', 'the offsets of version 2 are none'],
+  [-35]: ['InvalidOffset', 'the offsets of version 2 are invalid'],
   [-53]: ['Truncated', 'a field of the node is cut short'],
   [-54]: ['InvalidVarint', 'a number of the node is too large'],
   [-55]: ['UnexpectedField', 'a field of the node cannot be there'],

@@ -1,11 +1,11 @@
 /**
- * DAG-CBOR by a proved library. Whether bytes are a block is its judgement, for `decode` as for
+ * DAG-CBOR by a proved library. The library judges if bytes are a block, for `decode` and for
  * `encode`.
  */
 
 /**
  * The data of a block. An integer beyond 2^53 is a bigint. A map is an object whose keys are all
- * its own, `__proto__` as any other.
+ * its own, also `__proto__`.
  */
 export type Data =
   | null
@@ -58,7 +58,7 @@ export type Refusal =
   | 'UnsortedLinks'
   | EventRefusal;
 
-/** Why a frame is none, or its commit is not verified (`dagcbor/atproto`). */
+/** Why bytes are not a frame, or its commit is not verified (`dagcbor/atproto`). */
 export type EventRefusal =
   | 'NoEnd'
   | 'NoHeader'
@@ -88,24 +88,24 @@ export type EventRefusal =
   | 'KeyLength'
   | 'OtherState';
 
-/** Bytes that are no block, a value that has none, or what is no CID. */
+/** Bytes that are not a block, a value that has no block, or what is not a CID. */
 export class DagCborError extends Error {
   constructor(
     kind: Refusal | undefined,
     message: string,
     place?: number | readonly (string | number)[],
   );
-  /** Undefined of a file that is no repository (`dagcbor/atproto`), where the message tells why. */
+  /** Undefined for a file that is not a repository (`dagcbor/atproto`): the message tells why. */
   readonly kind: Refusal | undefined;
   /**
-   * Of bytes that are no block: the offset of the byte with which the refusal comes, or how many
-   * there are, where they end too early. Of a value that has none, or that a type which is made of
-   * a schema refuses: the keys and indices that lead there.
+   * For bytes that are not a block: the offset of the byte with which the refusal comes, or the
+   * number of bytes, if they end too early. For a value that has no block, or that a type made from
+   * a schema refuses: the keys and indices that lead to what is refused.
    */
   readonly place: number | readonly (string | number)[] | undefined;
 }
 
-/** A multihash, as that of `multiformats`. */
+/** A multihash, like that of `multiformats`. */
 export interface Multihash {
   readonly code: number;
   readonly size: number;
@@ -113,7 +113,7 @@ export interface Multihash {
   readonly bytes: Uint8Array;
 }
 
-/** A base, as one of `multiformats`: its encoder, and its decoder. */
+/** A base, like one of `multiformats`: its encoder, and its decoder. */
 export interface Base {
   readonly prefix: string;
   encode(bytes: Uint8Array): string;
@@ -136,24 +136,30 @@ export interface CidFront {
 /** A CID, with the names of `multiformats`, whose `CID.asCID` takes one. */
 export class CID {
   #binary;
-  /** Of the binary form, or of the text: Qm.. of version 0, and of version 1 behind b, B, z or f. */
+  /**
+   * From the binary form, or from the text: Qm.. for version 0, and b, B, z or f first for version
+   * 1.
+   */
   constructor(value: Uint8Array | string);
-  /** Of a text in another base than those above by its decoder. */
+  /** Reads a text in another base than those above by the decoder of that base. */
   static parse(text: string, base?: BaseDecoder): CID;
   static decode(bytes: Uint8Array): CID;
   /** The CID at the front of bytes, and the bytes after it, which lie over the same memory. */
   static decodeFirst(bytes: Uint8Array): [CID, Uint8Array];
-  /** What the CID at the front of bytes says, of which no more than that need be there. */
+  /** What the CID at the front of bytes says. No bytes after what it says need be there. */
   static inspectBytes(bytes: Uint8Array): CidFront;
-  /** Whether both are one CID, of this package or of another. */
+  /** True if both are the same CID, of this package or of another. */
   static equals(one: unknown, other: unknown): boolean;
-  /** The same CID of this package, out of one of another; null where it is none. */
+  /**
+   * The same CID as one of this package, from one of another package; null if the value is not a
+   * CID.
+   */
   static asCID(value: unknown): CID | null;
   static create(version: number, code: number, multihash: { readonly bytes: Uint8Array }): CID;
   static createV0(multihash: { readonly bytes: Uint8Array }): CID;
   static createV1(code: number, multihash: { readonly bytes: Uint8Array }): CID;
   readonly version: 0 | 1;
-  /** Of the codec: 0x71 for DAG-CBOR. */
+  /** The number of the codec: 0x71 for DAG-CBOR. */
   readonly code: number;
   readonly multihash: Multihash;
   /** A copy of the binary form, the same one each time. What is written into it changes no CID. */
@@ -166,30 +172,30 @@ export class CID {
   link(): this;
   toV0(): CID;
   toV1(): CID;
-  /** Whether it is the same CID, of this package or of another. */
+  /** True if it is the same CID, of this package or of another. */
   equals(other: unknown): boolean;
-  /** The text: Qm.. of version 0, and base32 behind b of version 1; or in another base. */
+  /** The text: Qm.. for version 0, and base32 after b for version 1; or in another base. */
   toString(base?: Base): string;
   toJSON(): { '/': string };
 }
 
-// Each Uint8Array is over memory that is not shared; over a SharedArrayBuffer it is a TypeError.
+// A Uint8Array must be over memory that is not shared: over a SharedArrayBuffer it is a TypeError.
 
-/** The data of a block. The caller may say of which type it is: nothing looks at that. */
+/** The data of a block. The caller may give its type, which nothing checks. */
 export function decode<T = Data>(block: Uint8Array): T;
 
-/** The data of the first item, and the bytes behind it, which lie over the same memory. */
+/** The data of the first item, and the bytes after it, which lie over the same memory. */
 export function decodeFirst<T = Data>(bytes: Uint8Array): [T, Uint8Array];
 
 /**
- * The one block of a value. Keys come in the order of blocks, whatever the object's. Beside `Data`
- * it takes a CID of `multiformats`, a Map whose keys are texts, and an object of another class, as
- * a map of its own enumerable properties. A float, undefined, a text with a surrogate alone, and
- * any other object, as a Date, a Set or a Uint16Array, are refused. Of a Proxy nobody can tell what
- * it stands for: it is written where it shows an Array or a plain object, and else refused
- * (`Unsupported`), as the reactive Map of a framework.
+ * The one block of a value. Keys come in the order of blocks, whatever the order in the object.
+ * Beside `Data` it takes a CID of `multiformats`, a Map whose keys are texts, and an object of
+ * another class, as a map of its own enumerable properties. It refuses a float, undefined, a text
+ * with a surrogate alone, and any other object, such as a Date, a Set or a Uint16Array. Nobody can
+ * tell what a Proxy stands for: if it shows an Array or a plain object it is written, and otherwise
+ * it is refused (`Unsupported`), for example the reactive Map of a framework.
  *
- * A block of up to 1,024 bytes may share its `buffer` with others, as a Buffer of Node does: where
+ * A block of up to 1,024 bytes may share its `buffer` with others, as a Buffer of Node does. If
  * that matters, as for `postMessage`, take its `slice()`.
  */
 export function encode(value: unknown): Uint8Array;
@@ -201,29 +207,32 @@ export function check(block: Uint8Array): Kind;
 export function links(block: Uint8Array): CID[];
 
 /**
- * A text as `a/0/b`, whose segments stand between slashes, and empty ones say nothing; or an array
- * of segments, each taken whole. A segment is a key of a map, or the index of an item of a list in
- * decimal. A key that is empty or has a slash is reached by an array alone.
+ * A text such as `a/0/b`, whose segments stand between slashes, and empty ones say nothing; or an
+ * array of segments, each taken whole. A segment is a key of a map, or the index of an item of a
+ * list in decimal. Only an array reaches a key that is empty or has a slash.
  */
 export type Path = string | readonly string[];
 
 /**
- * The data to which a path leads in a block; undefined where it leads nowhere. A link is an item,
- * and nothing is in it.
+ * The data to which a path leads in a block; undefined if it leads nowhere. A link is an item, and
+ * nothing is in it.
  */
 export function find<T = Data>(block: Uint8Array, path: Path): T | undefined;
 
-/** What holds blocks by their names: a call, or what has `get`, as a `CarReader` or a blockstore. */
+/**
+ * What holds blocks by their names: a call, or an object with `get`, such as a `CarReader` or a
+ * blockstore.
+ */
 export type Blocks = Get | { get: Get };
 export type Get = (cid: CID) => Held | Promise<Held>;
 export type Held = Uint8Array | { readonly bytes: Uint8Array } | undefined | null;
 
 /**
- * The data to which the path leads from the block of the CID, over links, as `ipfs dag get`;
- * undefined where it leads nowhere. Each block on the way is verified, so either answer holds of
- * whoever has blocks of these names. It is refused where a block on the way is not held
- * (`MissingBlock`), is of another codec (`NotRead`) or hash function (`NotVerified`), is not the one
- * that its name says (`OtherBytes`), or no block.
+ * The data to which the path leads from the block of the CID, over links, as in `ipfs dag get`;
+ * undefined if it leads nowhere. Each block on the way is verified, so either answer holds for
+ * everyone who has blocks of these names. The call is refused if a block on the way is not held
+ * (`MissingBlock`), is of another codec (`NotRead`) or hash function (`NotVerified`), has other
+ * bytes than its name says (`OtherBytes`), or is not a block.
  */
 export function resolve<T = Data>(get: Blocks, cid: AnyCid, path: Path): Promise<T | undefined>;
 
@@ -234,8 +243,8 @@ export function name(block: Uint8Array): CID;
 export function tape(block: Uint8Array): BigUint64Array;
 
 /**
- * What is said of bytes that came under a name. `ok ..` and `refused ..` where they are those that
- * it names.
+ * The verdict on bytes that came under a name. It is `ok ..` or `refused ..` if they are the bytes
+ * that the name names.
  */
 export function verify(cid: AnyCid, bytes: Uint8Array): Verdict;
 
@@ -244,21 +253,21 @@ export function verify(cid: AnyCid, bytes: Uint8Array): Verdict;
 /** A CID of this package, or of another that has its binary form in `bytes`. */
 export type AnyCid = { readonly bytes: Uint8Array };
 
-/** Bytes as they come: a stream of Node, say. */
+/** Bytes as they come, for example from a stream of Node. */
 export type Source = AsyncIterable<Uint8Array> | Iterable<Uint8Array>;
 
 /**
- * How a file is gone through. `sha256` computes the digests of blocks of 8 KB or more in the place
- * of the library, as `(bytes) => createHash('sha256').update(bytes).digest()` of Node's `crypto`,
- * and is trusted: a block whose digest it calls that of its CID is taken for the one that is named.
- * The library is asked about each other, so verdicts are the same. It is called on the thread that
- * asks, with a copy.
+ * How a file is read. `sha256` computes the digests of blocks of 8 KB or more in the place of the
+ * library, such as `(bytes) => createHash('sha256').update(bytes).digest()` of Node's `crypto`, and
+ * is trusted: if it says that a block has the digest of its CID, the block is taken for the one
+ * that the CID names. The library still judges each block, so verdicts are the same. It is called
+ * on the thread that asks, with a copy.
  */
 export interface CarOptions {
   readonly sha256?: (bytes: Uint8Array) => Uint8Array;
 }
 
-/** What is said of a section, in the words of `dagcar check`. */
+/** The verdict on a section, in the words of `dagcar check`. */
 export type Verdict =
   | `ok ${Kind}`
   | `refused ${Refusal}`
@@ -278,11 +287,11 @@ export interface Block {
 
 /**
  * Bytes that are not a CAR file. `place` is the offset in the file of the header or the section
- * that is none.
+ * that is not one.
  */
 export class CarError extends DagCborError {
   readonly place: number;
-  /** Of `checkCar`, what was found before; not where the header is none. */
+  /** For `checkCar`: what was found before. Not there if the fault is in the header. */
   readonly checked?: CarCheck;
 }
 
@@ -295,7 +304,7 @@ export class CarBlockIterator implements AsyncIterable<Block> {
   [Symbol.asyncIterator](): AsyncIterator<Block>;
 }
 
-/** A file of Node that is open: its number, or what `open` of `fs/promises` gives. */
+/** An open file of Node: its number, or what `open` of `fs/promises` gives. */
 export type OpenFile = number | FileHandle;
 export interface FileHandle {
   read(into: Uint8Array, at: number, count: number, place: number): Promise<{ bytesRead: number }>;
@@ -307,7 +316,7 @@ export class CarBufferReader {
   static fromBytes(bytes: Uint8Array, options?: CarOptions): CarBufferReader;
   readonly version: CarVersion;
   getRoots(): CID[];
-  /** Whether a verified block has the name. */
+  /** True if a verified block has the name. */
   has(cid: AnyCid): boolean;
   /** The first verified block of the name. */
   get(cid: AnyCid): Block | undefined;
@@ -317,15 +326,15 @@ export class CarBufferReader {
 }
 
 /**
- * A file on disk, of which the names and places are in memory. In the package for browsers
- * `fromFile` rejects.
+ * A file on disk. Its names and places are in memory. In the package for browsers `fromFile`
+ * rejects.
  */
 export class CarIndexedReader {
-  /** Opens the file until `close()`, and goes through all of it. */
+  /** Opens the file until `close()`, and reads all of it. */
   static fromFile(path: string, options?: CarOptions): Promise<CarIndexedReader>;
   readonly version: CarVersion;
   getRoots(): Promise<CID[]>;
-  /** Whether a verified block had the name. */
+  /** True if a verified block had the name. */
   has(cid: AnyCid): Promise<boolean>;
   /** The first block of the name that was verified, read and verified again. */
   get(cid: AnyCid): Promise<Block | undefined>;
@@ -341,7 +350,7 @@ export class CarReader {
   static fromIterable(source: Source, options?: CarOptions): Promise<CarReader>;
   /**
    * The block that stands there in an open file of Node, if it is verified. Else it is refused
-   * (`OtherBytes`, `NotVerified`), as where the file ends before (`Truncated`).
+   * (`OtherBytes`, `NotVerified`), also if the file ends before it does (`Truncated`).
    */
   static readRaw(
     file: OpenFile,
@@ -349,7 +358,7 @@ export class CarReader {
   ): Promise<{ cid: AnyCid; bytes: Uint8Array; verdict: Verdict }>;
   readonly version: CarVersion;
   getRoots(): Promise<CID[]>;
-  /** Whether a verified block has the name. */
+  /** True if a verified block has the name. */
   has(cid: AnyCid): Promise<boolean>;
   /** The first verified block of the name. */
   get(cid: AnyCid): Promise<Block | undefined>;
@@ -367,7 +376,7 @@ export class CarCIDIterator implements AsyncIterable<CID> {
   [Symbol.asyncIterator](): AsyncIterator<CID>;
 }
 
-/** Where a section stands in a file, and where its block does. */
+/** Where a section is in a file, and where its block is. */
 export interface BlockIndex {
   readonly cid: CID;
   readonly offset: number;
@@ -377,7 +386,7 @@ export interface BlockIndex {
   readonly verdict: Verdict;
 }
 
-/** Where the sections of a file stand, one at a time, and its roots. */
+/** Where the sections of a file are, one at a time, and its roots. */
 export class CarIndexer implements AsyncIterable<BlockIndex> {
   static fromBytes(bytes: Uint8Array, options?: CarOptions): Promise<CarIndexer>;
   static fromIterable(source: Source, options?: CarOptions): Promise<CarIndexer>;
@@ -393,14 +402,14 @@ export interface CarCheck {
   readonly verdicts: { readonly [verdict in Verdict]?: number };
   /**
    * The roots and links that lead to no verified block of the file, each once, in the order of
-   * their bytes. A CID by the identity holds its block itself: its links are followed.
+   * their bytes. A CID by the identity hash holds its block itself: its links are followed.
    */
   readonly missing: CID[];
-  /** Whether nothing is missing, and each verdict is `ok ..` or `not read`. */
+  /** True if nothing is missing, and each verdict is `ok ..` or `not read`. */
   readonly isWell: boolean;
 }
 
-/** Goes through a whole file, with no more than a section and the names in memory. */
+/** Checks a whole file, with no more than a section and the names in memory. */
 export function checkCar(
   source: Uint8Array | Source,
   options?: CarOptions,
@@ -413,19 +422,19 @@ export class CarWriter {
     writer: CarWriter;
     out: AsyncIterable<Uint8Array>;
   };
-  /** The same of sections alone, which follow a file that is there. */
+  /** The same for sections alone, to follow a file that is there. */
   static createAppender(): { writer: CarWriter; out: AsyncIterable<Uint8Array> };
   /**
    * Writes other roots into the header of a file of version 1, if they take as many bytes as those
-   * there. Else it is refused, and nothing is written: `LengthMismatch`, and of a file of version 2
-   * `OtherHeader`. The promise gives the same bytes.
+   * there. Else it is refused, and nothing is written: `LengthMismatch`, or `OtherHeader` for a
+   * file of version 2. The promise gives the same bytes.
    */
   static updateRootsInBytes<T extends Uint8Array>(bytes: T, roots: AnyCid | readonly AnyCid[]): Promise<T>;
-  /** The same in a file of Node that is open to be read and written, and not to be appended to. */
+  /** The same in a file of Node that is open for reading and writing, and not for appending. */
   static updateRootsInFile(file: OpenFile, roots: AnyCid | readonly AnyCid[]): Promise<void>;
   /**
-   * A section. Bytes that are not those of their CID are refused (`OtherBytes`), and nothing is
-   * written. The promise is kept when what follows is asked for.
+   * Writes a section. If the bytes are not those of their CID they are refused (`OtherBytes`), and
+   * nothing is written. The promise is kept when the reader asks for what follows.
    */
   put(block: { readonly cid: AnyCid; readonly bytes: Uint8Array }): Promise<void>;
   close(): Promise<void>;
@@ -433,11 +442,15 @@ export class CarWriter {
 
 /** A file of version 1 that is written into memory of a given size. */
 export interface BufferWriter {
-  /** Where the header has no room for it, `resize` moves what was written; else a RangeError. */
+  /**
+   * If the header has no room for it, `resize` moves what was written; else it throws a RangeError.
+   */
   addRoot(root: AnyCid, options?: { readonly resize?: boolean }): void;
-  /** A section, as by `CarWriter`; a RangeError where the memory has no room for it. */
+  /**
+   * Writes a section, as `CarWriter` does. It throws a RangeError if the memory has no room for it.
+   */
   write(block: { readonly cid: AnyCid; readonly bytes: Uint8Array }): void;
-  /** The file. Where the header has another size than was foretold, `resize` is wanted. */
+  /** The file. If the header has another size than was foretold, `resize` is needed. */
   close(options?: { readonly resize?: boolean }): Uint8Array;
 }
 
@@ -453,7 +466,10 @@ export const CarBufferWriter: {
   ): BufferWriter;
   /** How many bytes a section has. */
   blockLength(block: { readonly cid: AnyCid; readonly bytes: Uint8Array }): number;
-  /** How many bytes the header has: of these roots, of roots of these lengths, of so many roots. */
+  /**
+   * How many bytes the header has: for these roots, for roots of these lengths, for a count of
+   * roots.
+   */
   headerLength(header: { readonly roots: readonly AnyCid[] }): number;
   calculateHeaderLength(rootLengths: readonly number[]): number;
   estimateHeaderLength(rootCount: number, rootByteLength?: number): number;

@@ -4,7 +4,7 @@ const { native } = require('./library.js');
 const { CID, cidOf, unpack } = require('./cid.js');
 const { DagCborError, KINDS, answered } = require('./errors.js');
 
-// What is said of a block, or its refusal with the place.
+// The answer for a block, or its refusal with the place.
 const of = (call) => (block) => answered(call(block), () => native.place(block));
 
 const check = (block) => KINDS[of(native.check)(block)];
@@ -12,7 +12,7 @@ const tape = of(native.tape);
 const links = (block) => unpack(of(native.links)(block));
 const name = (block) => cidOf(native.name(block));
 
-// In such a way that `import` finds each name.
+// Written so that `import` finds each name.
 module.exports = {
   ...require('./car.js'), ...require('./car_writer.js'), ...require('./decode.js'),
   ...require('./encode.js'), ...require('./paths.js'), CID, DagCborError, check, links, name, tape,

@@ -1,4 +1,4 @@
-// What answers the library's calls: an addon, or where none loads the WebAssembly module.
+// Answers the library's calls: an addon, or the WebAssembly module if none loads.
 'use strict';
 const { readFileSync } = require('fs');
 const { addonOf, addonPaths, lacking, modulePaths, thereOf } = require('./addons.js');
@@ -7,7 +7,7 @@ const byModule = (path) => {
   const { callsOf } = require('./wasm/dagcbor.js');
   const { nativeOf } = require('./wasm/native.js');
   const bytes = readFileSync(path);
-  // Node 20 has memory of 64-bit addresses, and wants to be told.
+  // Node 20 has memory of 64-bit addresses only if it is told.
   if (!WebAssembly.validate(bytes)) {
     require('v8').setFlagsFromString('--experimental-wasm-memory64');
   }

@@ -1,6 +1,7 @@
-/* What takes memory, for Node: an addon of its own, since its library takes memory and the other
-   does not. A file is read by a thread of the pool, in memory that no script writes meanwhile. While
-   the library reads a frame no script runs, and memory that another thread may write is refused. */
+/* What takes memory, for Node. It is an addon of its own, because its library takes memory and the
+   other does not. A thread of the pool reads a file, in memory that no script writes meanwhile.
+   While the library reads a frame no script runs, and memory that another thread may write is
+   refused. */
 #define _GNU_SOURCE // NOLINT: the C library names it so; for the place of a stack
 #include "addon.h"
 
@@ -31,8 +32,8 @@ static napi_value answer_of(napi_env env, const Question *it) {
     return array_of(env, parts, 2);
 }
 
-/* So many arguments, which are bytes, and what the call is told; false, with an exception thrown,
- * where they are not. */
+/* This many arguments, which are bytes, and what the call is told; false, with an exception thrown,
+ * if they are not. */
 static bool takes(napi_env env, napi_callback_info info, size_t count, napi_value *given,
                   Lent *bytes, void **about) {
     size_t given_count = count;
@@ -91,7 +92,7 @@ static napi_value ask_later(napi_env env, napi_callback_info info) {
 
 /* Of frames */
 
-/* The lowest address of this thread's stack, or NULL where it is not known. */
+/* The lowest address of this thread's stack, or NULL if it is not known. */
 static void *end_of_stack(void) {
     pthread_attr_t about;
     void *lowest = NULL;
@@ -102,7 +103,7 @@ static void *end_of_stack(void) {
     return lowest;
 }
 
-/* Whether the thread has as much of it left as a call wants, and some more for what is made of the
+/* True if the thread has as much of it left as a call needs, and some more for what is made of the
  * answer: a script of a worker may have taken it. */
 static bool has_stack(napi_env env) {
     void *lowest = NULL;

@@ -18,8 +18,8 @@ const utf8Of = (text) => {
 // The bytes of a text, or an array of those of each segment.
 const pathOf = (path) => (Array.isArray(path) ? Array.from(path, utf8Of) : utf8Of(path));
 
-// The last item of the block to which a front of the path leads, whether it is a link, and what is
-// left of the path, or null where nothing is.
+// The last item of the block to which a front of the path leads, if it is a link, and what is left
+// of the path, or null if nothing is.
 const followText = (block, path) => {
   const found = answered(native.follow(block, path), () => native.place(block));
   const [kind, begin, end, passed] = found;
@@ -27,7 +27,7 @@ const followText = (block, path) => {
   return { item: view(block, begin, end), isLink: kind === LINK, left };
 };
 
-// As followText, where each segment is taken whole.
+// As followText, but each segment is taken whole.
 const followSegments = (block, segments) => {
   let kind = answered(native.check(block), () => native.place(block));
   let item = block;
@@ -47,7 +47,7 @@ const find = (block, path) => {
   return left === null ? decode(item) : undefined;
 };
 
-// What is held under the name. A name by the identity holds its block itself.
+// What is held under the name. A name by the identity hash holds its block itself.
 const heldUnder = async (get, cid) => {
   const { code, digest } = toldOf(cid).multihash;
   if (code === IDENTITY) return digest;

@@ -1,4 +1,4 @@
-// What Node has of its own, for what other engines have it in another way (callers/wasm/esm).
+// What Node has of its own; other engines have it in another way (callers/wasm/esm).
 'use strict';
 const { read, write } = require('fs');
 const { open } = require('fs/promises');
@@ -10,7 +10,7 @@ const [MOST, PIECE] = [1 << 30, 1 << 18]; // bytes of a file that one read takes
 
 const { latin1Slice, utf8Slice } = Buffer.prototype;
 
-// Memory that blocks share: as that of Node's Buffers it is not transferred.
+// Memory that blocks share: like that of Node's Buffers it is not transferred.
 const newPool = (size) => {
   const made = new Uint8Array(size);
   markAsUntransferable(made.buffer);
@@ -26,7 +26,7 @@ const latin1 = (bytes, from = 0, to = lengthOf.call(bytes)) => latin1Slice.call(
 // The text of UTF-8.
 const utf8 = (bytes, from, to) => utf8Slice.call(bytes, from, to);
 
-// Whether an object has more inside than properties, whatever class it says that it is of.
+// True if an object has more inside than properties, whatever class it says that it has.
 const { isMap, isProxy } = types;
 const hasInside = (value) =>
   isMap(value) || types.isSet(value) || types.isDate(value) || types.isBoxedPrimitive(value);
@@ -39,7 +39,7 @@ const callOf = (file, call, name) => {
   throw new TypeError('an open file is wanted: a number or a FileHandle');
 };
 
-// So many bytes from a place on, or those up to the end.
+// This many bytes from a place on, or those up to the end.
 const readAt = async (file, count, place) => {
   const [bytes, readInto] = [new Uint8Array(count), callOf(file, read, 'read')];
   for (let at = 0; at < count;) {

@@ -13,7 +13,7 @@ const WORDS = { delete: 'remove', addRoot: 'add-root', dropRoot: 'drop-root' };
 
 const textOf = (bytes) => Buffer.from(bytes).toString();
 const cidsIn = (bytes) => textOf(bytes).split('\n').filter(Boolean).map((it) => new CID(it));
-// An absolute path, which can stand in a line.
+// An absolute path that can stand in a line.
 const pathOf = (path) => {
   const text = path instanceof URL ? fileURLToPath(path) : path;
   if (typeof text !== 'string' || !/^[^\n\0]+$/.test(text) || isAlone(text)) {
@@ -29,7 +29,7 @@ const codecOf = (codec) => {
   throw new TypeError("a codec is 'dag-cbor', 'raw' or a number");
 };
 
-// The request of a change. A block is copied, since it is sent later.
+// The request for a change. A block is copied, because it is sent later.
 const requestOf = ({ put, cid, codec = cid ? wantedCid(cid).code : 'dag-cbor', ...named }) => {
   if (put !== undefined) {
     const block = whole(put).slice();
@@ -40,7 +40,7 @@ const requestOf = ({ put, cid, codec = cid ? wantedCid(cid).code : 'dag-cbor', .
   return { line: `${WORDS[word]} ${wantedCid(value)}` };
 };
 
-// `put(block, codec)`, or as a blockstore `put(cid, block)`.
+// `put(block, codec)`, or `put(cid, block)` as in a blockstore.
 const changeOf = (first, second) =>
   isBytes(first) ? { put: first, codec: second } : { put: second, cid: wantedCid(first) };
 
@@ -55,7 +55,7 @@ class Store {
     return store;
   }
 
-  // Calls it when each call before has ended.
+  // Calls it when each call before it has ended.
   #alone(call) {
     const made = this.#turn.then(call);
     this.#turn = made.catch(() => {});
@@ -72,7 +72,7 @@ class Store {
     throw new InvalidBlock(`the block is not that of ${cid}, but of ${textOf(answer)}`);
   }
 
-  // Does the requests in one commit: all of them, or none. Answers the CIDs of the blocks.
+  // Makes the requests in one commit: all of them, or none. Returns the CIDs of the blocks.
   async #do(requests) {
     const answers = [];
     await this.#alone(async () => {

@@ -1,4 +1,4 @@
-// What `dagstore` says of a call that it refuses, as classes of errors.
+// What `dagstore` says about a call that it refuses, as classes of errors.
 'use strict';
 
 class StoreError extends Error {

@@ -10,13 +10,13 @@ const errors = require('./store_errors.js');
 
 const [CARRIED = 'dagstore'] = thereOf(programPaths);
 const LINE_FEED = 10;
-const ANSWER = /^(ok|none|refused|bad) (\d+)$/; // before so many bytes
+const ANSWER = /^(ok|none|refused|bad) (\d+)$/; // before this many bytes
 const HOW = 'name it, or set DAGSTORE, or put it on PATH';
 const missing = (program) => (existsSync(program)
   ? `the program ${program} is for another platform than this: ${HOW}`
   : `there is no program \`dagstore\`: ${HOW}`);
 
-// How the last line of what is said begins, which tells why.
+// How the last line of a message begins: it tells why.
 const REFUSALS = [
   [/^another process has the file open/, 'StoreLocked'],
   [/^the file (is no store|is of an earlier version|cannot be opened)/, 'StoreUnreadable'],
@@ -70,13 +70,13 @@ class Program {
     return new errors.StoreEnded(`the program ended (${status}): ${this.#told.trim()}`);
   }
 
-  // A script may end while no answer is awaited. The program then ends too.
+  // A script may end while no answer is awaited. Then the program ends too.
   #hold(more) {
     this.#asked += more;
     for (const it of [this.#child, ...this.#child.stdio]) it[this.#asked ? 'ref' : 'unref']();
   }
 
-  // The bytes of the answer, or null where it says that there are none.
+  // The bytes of the answer, or null if it says that there are none.
   ask(request, block = '') {
     this.#hold(1);
     const { stdin } = this.#child;

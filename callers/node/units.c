@@ -1,8 +1,8 @@
-/* Texts between UTF-8 and the units of 16 bits that JavaScript has. They stand by themselves, since
-   the compiler makes slow code of them inside of others. */
+/* Texts between UTF-8 and the units of 16 bits that JavaScript has. They stand by themselves,
+   because the compiler makes slow code of them inside of others. */
 #include "addon.h"
 
-/* Puts the units of UTF-8 that is known to be such, of which each is a byte, and answers how many
+/* Puts the units of UTF-8 that is known to be such, each of which is a byte, and returns how many
  * there are. Eight bytes are looked at at once, by processors that put the low byte first. */
 size_t put_latin1(const uint8_t *restrict text, size_t length, uint8_t *restrict units) {
     size_t at = 0, count = 0;
@@ -23,7 +23,7 @@ size_t put_latin1(const uint8_t *restrict text, size_t length, uint8_t *restrict
     return count;
 }
 
-/* As put_latin1, where they are any. */
+/* As put_latin1, for any units. */
 size_t put_units(const uint8_t *text, size_t length, uint16_t *units) {
     size_t count = 0;
     for (size_t at = 0; at < length;) {
@@ -45,15 +45,15 @@ size_t put_units(const uint8_t *text, size_t length, uint16_t *units) {
     return count;
 }
 
-/* Whether each of its units is a byte. */
+/* True if each of its units is a byte. */
 bool is_latin1(const uint8_t *text, size_t length) {
     uint8_t most = 0;
     for (size_t i = 0; i < length; i++) most = text[i] > most ? text[i] : most;
     return most < 0xc4;
 }
 
-/* Puts UTF-8, of at most three bytes for a unit, and answers its end; NULL where a surrogate is
- * alone. One more byte may be written. */
+/* Puts UTF-8, of at most three bytes for a unit, and returns its end; NULL if a surrogate is alone.
+ * One more byte may be written. */
 uint8_t *put_utf8(const uint16_t *units, size_t count, uint8_t *out) {
     for (size_t i = 0; i < count; i++) {
         uint32_t unit = units[i];

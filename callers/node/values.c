@@ -1,4 +1,4 @@
-/* What both addons make of values, and take of them. */
+/* What both addons make of values, and take from them. */
 #include "addon.h"
 #if defined(__GLIBC__)
 #include <gnu/libc-version.h>
@@ -72,7 +72,7 @@ napi_value doubles(napi_env env, const void *numbers, size_t count) {
     return array;
 }
 
-/* glibc alone has such a call: so no other C library loads what was compiled over it. */
+/* Only glibc has such a call: so no other C library loads what was compiled with it. */
 static bool has_library(void) {
 #if defined(__GLIBC__)
     return *gnu_get_libc_version() != '\0';

@@ -1,15 +1,15 @@
 """Builds the two extensions, each with its proved library inside. Nothing is left in this folder.
 
 The libraries are those of the environment variables DAGCBOR_LIBRARY and DAGCBOR_MEMORY_LIBRARY; else
-those that a release has in lib/ and include/; else those of this repository, which are proved and
-built first where they are not there and the toolchain's `rt` is.
+those that a release has in lib/ and include/; else those of this repository. If these are not there
+and the toolchain's `rt` is, they are proved and built first.
 
-A wheel says which glibc it needs (manylinux): the newest of which a library or the program in it has
-a symbol.
+A wheel says which glibc it needs (manylinux): the newest one whose symbols a library or the program in
+it uses.
 
 The program `dagstore` goes beside the modules: the one of the environment variable DAGSTORE, else one
-that a release has in lib/, else one that is built in this repository. Without one, a store wants it
-to be named."""
+that a release has in lib/, else one that is built in this repository. Without one, whoever opens a
+store has to name it."""
 
 import os
 import platform
@@ -31,7 +31,7 @@ CRATE_NAMES = ("dagcbor_ffi", "dagcbor_memory_ffi")
 
 
 def wheel_command():
-    """The command that makes wheels. A setuptools that makes none is refused, before anything is proved for one."""
+    """The command that makes wheels. It refuses a setuptools that makes none, before anything is proved for one."""
     try:
         return tagging(Distribution().get_command_class("bdist_wheel"))
     except ModuleError:
@@ -53,7 +53,7 @@ def library(crate, variable):
 
 
 def program():
-    """The path of the program `dagstore` for the processor that is built for, or none."""
+    """Returns the path of the program `dagstore` for the target processor, or None."""
     machine = sysconfig.get_platform().partition("-")[2]
     found = [os.path.join(HERE, "lib", machine, "dagstore")]
     if machine == platform.machine():
@@ -62,7 +62,7 @@ def program():
 
 
 class WithProgram(build_py):
-    """Puts the program beside the modules, where there is one."""
+    """Puts the program beside the modules, if there is one."""
 
     def run(self):
         super().run()
@@ -74,7 +74,7 @@ class WithProgram(build_py):
 
 
 def newest_glibc(folder):
-    """The newest glibc of which a file below the folder names a symbol: the parts of its number, or none."""
+    """Returns the newest glibc whose symbols a file below the folder uses: the parts of its number, or None."""
     paths = [os.path.join(at, name) for at, _, names in os.walk(folder) for name in names]
     found = set()
     for path in paths:
@@ -84,7 +84,7 @@ def newest_glibc(folder):
 
 
 def tagging(kind):
-    """The command that makes wheels, but for the tag of the platform."""
+    """The command that makes wheels, with its own tag of the platform."""
 
     class Tagging(kind):
         def get_tag(self):
@@ -98,7 +98,7 @@ def tagging(kind):
 
 
 def extension(name, crate, variable, sources):
-    """An extension over a crate's library, of which it shows nothing: so what two have alike is two."""
+    """An extension over a crate's library. It exports nothing of it, so what two libraries share is there twice."""
     return Extension(
         name,
         sources=sources,

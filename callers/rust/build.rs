@@ -1,5 +1,5 @@
-//! Links the proved library: that of the environment variable DAGCBOR_LIBRARY; else that which a
-//! release has in lib/; else that of this repository, which is proved and built first where it is
+//! Links the proved library: that of the environment variable DAGCBOR_LIBRARY; else the one that a
+//! release has in lib/; else that of this repository, which is proved and built first if it is
 //! not there and the toolchain's `rt` is.
 
 use std::path::{Path, PathBuf};
@@ -29,7 +29,7 @@ fn main() {
     println!("cargo:rustc-link-lib=static=dagcbor_ffi");
 }
 
-/// The path of the one that stands in this folder, or of the repository's own.
+/// The path of the library in this folder, or of the repository's own.
 fn carried_or_built(here: &Path) -> PathBuf {
     let machine = std::env::var("CARGO_CFG_TARGET_ARCH").unwrap_or_default();
     let carried = here.join("lib").join(machine).join("libdagcbor_ffi.a");
@@ -39,7 +39,7 @@ fn carried_or_built(here: &Path) -> PathBuf {
         return carried;
     }
     if !archive.exists() {
-        // Where there is no `rt`, the archive is missed above.
+        // If there is no `rt`, the archive is missed above.
         let _ = Command::new("rt")
             .arg("lib")
             .current_dir(folder)

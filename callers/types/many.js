@@ -1,4 +1,4 @@
-// Types with more than the prover takes, of large.ipldsch and others.ipldsch beside this: each is written and read again,
+// Types with more than the prover takes, from large.ipldsch and others.ipldsch beside this file: each is written and read again,
 // and what holds itself is refused. The argument is the folder of what the compiler made.
 'use strict';
 const assert = require('node:assert');
@@ -23,7 +23,7 @@ const rows = [
 ];
 for (const [made, value, wanted] of rows) {
   const block = made.encode(value);
-  // `a0` and `a1` are what is meant where they are left out.
+  // `a0` and `a1` are what is meant if they are left out.
   assert.deepStrictEqual(decode(block), wanted);
   assert.deepStrictEqual(made.decode(block), value);
 }

@@ -1,4 +1,4 @@
-"""Types with more than the prover takes, of large.ipldsch and others.ipldsch beside this: each is written and read again, and what
+"""Types with more than the prover takes, from large.ipldsch and others.ipldsch beside this file: each is written and read again, and what
 holds itself is refused."""
 
 import dataclasses
@@ -11,7 +11,7 @@ DEEP = [[5]]
 
 
 def values(kind, **others):
-    """A number for each field, but for these."""
+    """A number for each field, except these."""
     numbers = {field.name: number for number, field in enumerate(dataclasses.fields(kind))}
     return kind(**numbers | others)
 

@@ -1,5 +1,5 @@
-// The types that are made of schemas, in TypeScript, over the lines of schemas/examples/verdicts.py,
-// which are given on the input. The argument is the folder of what the compiler made.
+// Tests the types made from schemas, in TypeScript, on the lines of schemas/examples/verdicts.py,
+// which come on the input. The argument is the folder of what the compiler made.
 'use strict';
 const assert = require('node:assert');
 const { readFileSync } = require('node:fs');
@@ -8,13 +8,13 @@ const { join, resolve } = require('node:path');
 const folder = resolve(process.argv[2]);
 const { DagCborError } = require(join(folder, '../node_modules/dagcbor'));
 
-// What the block is written again as, or the kind of the error and the path that it names.
+// Returns the block as it is written again, or the kind of the error and the path that it names.
 const answer = (made, block) => {
   try {
     return Buffer.from(made.encode(made.decode(block))).toString('hex');
   } catch (error) {
     if (!(error instanceof DagCborError)) throw error;
-    // A path where the bytes are a block of another shape; of other bytes the place of one.
+    // A path if the bytes are a block of another shape; for other bytes the place of the refusal.
     const path = Array.isArray(error.place) ? error.place.join('/') || '-' : '-';
     assert.ok(error.message.startsWith(path === '-' ? '' : `${path}: `));
     return `${error.kind} ${path}`;
@@ -29,7 +29,7 @@ for (const line of lines) {
 }
 assert.ok(lines.length > 50);
 
-// No item stands behind one that is left out, and what is no member is not written.
+// No item stands after one that is left out, and what is not a member is not written.
 const { Embed, Point, Units } = require(join(folder, 'forms'));
 const gap = { x: 0n, y: null, z: 0, counts: {}, tags: [], t: 1 };
 const refusals = [

@@ -1,4 +1,4 @@
-"""The types that are made of schemas, in Python, over the lines of schemas/examples/verdicts.py, which are given on the input."""
+"""Tests the types made from schemas, in Python, on the lines of schemas/examples/verdicts.py, which come on the input."""
 
 import importlib
 import sys
@@ -7,7 +7,7 @@ from dagcbor import DagCborError
 
 
 def ways(module, name):
-    """What reads a block and what writes it: of the class, or of the type's name where it has none."""
+    """What reads a block and what writes it: those of the class, or of the type's name if it has no class."""
     made = getattr(module, name)
     if hasattr(made, "from_block"):
         return made.from_block, made.to_block
@@ -15,7 +15,7 @@ def ways(module, name):
 
 
 def answer(read, write, block):
-    """What the block is written again as, or the kind of the error and the path that it names."""
+    """Returns the block as it is written again, or the kind of the error and the path that it names."""
     try:
         value = read(block)
         assert read(bytearray(block)) == value
@@ -34,7 +34,7 @@ for line in sys.stdin:
     count += 1
 assert count > 50
 
-# No item stands behind one that is left out, and what is no member is not written.
+# No item stands after one that is left out, and what is not a member is not written.
 forms = importlib.import_module("forms")
 gap = forms.Point(x=0, y=None, z=0, counts=forms.Counts(), tags=[], t=1)
 for value, write, kind, place in [

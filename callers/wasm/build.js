@@ -1,5 +1,6 @@
-// node build.js FOLDER MODULE: the package for browsers, Deno and others, of ECMAScript modules. Its
-// files are those of callers/node, but for what answers the library's calls, which is the module.
+// node build.js FOLDER MODULE makes the package for browsers, Deno and others, of ECMAScript
+// modules. Its files are those of callers/node, except what answers the library's calls, which is
+// the module.
 'use strict';
 const { copyFileSync, mkdirSync, readFileSync, readdirSync, writeFileSync } = require('fs');
 const { basename, join } = require('path');

@@ -1,6 +1,6 @@
 // node --experimental-wasm-memory64 call.js dagcbor_ffi.wasm TABLE TEXTS HEADERS SECTIONS PATHS
-// SEGMENTS NODES MODELS FILES (later versions want no flag). Holds the module against each row of the
-// tables.
+// SEGMENTS NODES MODELS FILES (later versions need no flag). Compares the module with each row of
+// the tables.
 'use strict';
 const { readFileSync } = require('fs');
 const { load, unpacked } = require('../node/wasm/dagcbor.js');

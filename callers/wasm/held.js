@@ -1,5 +1,5 @@
-// Holds the package against the vectors of conformance/, and values against each other, in whatever
-// engine: `read` answers the text of a file of conformance/vectors.
+// Compares the package with the vectors of conformance/, and values with each other, in any engine:
+// `read` returns the text of a file of conformance/vectors.
 
 const hexOf = (bytes) => Array.from(bytes, (it) => it.toString(16).padStart(2, '0')).join('');
 const bytesOf = ({ bytes, repeat = [[bytes, 1]] }) => {

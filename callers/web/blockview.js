@@ -70,7 +70,7 @@ export class BlockView {
     const { place, bytes, fault } = this;
     const parts = [];
     if (place === bytes.length) {
-      parts.push(`Read to the end, byte ${grouping(place)}; more is wanted there.`);
+      parts.push(`Read to the end, byte ${grouping(place)}; more is needed there.`);
     } else {
       const byte = make('code.byte.is-fault', hexByte(bytes[place]));
       parts.push(`At byte ${grouping(place)} (0x${place.toString(16)}), `, byte);
@@ -82,7 +82,7 @@ export class BlockView {
     return parts;
   }
 
-  // Where a refused block stops, and where what is refused begins.
+  // The place where a refused block stops, and where what is refused begins.
   get fault() {
     if (this.isBlock || !this.items) return null;
     const last = this.shape.count - 1;

@@ -1,5 +1,5 @@
-// A CAR file, gone through by a window over the file: never more of it is in
-// memory than its longest section needs.
+// Reads a CAR file by a window over the file: never more of it is in memory than its longest
+// section needs.
 
 import {
   MORE_BYTES, NOT_VERIFIED, OTHER_BYTES, OTHER_CODEC, THE_END, THE_HEADER, TOO_LONG,
@@ -15,15 +15,15 @@ const MOST = 1 << 30;
 const read = async (file, from, length) =>
   new Uint8Array(await file.slice(from, from + length).arrayBuffer());
 
-// What is read ahead may not be waited for, and then nobody is told that it failed.
+// Nobody may wait for what is read ahead, and then nobody is told that it failed.
 const ahead = (file, from, length) => {
   const coming = read(file, from, length);
   coming.catch(() => {});
   return coming;
 };
 
-// The front of a CAR file: its roots, its version, and the walk that goes on behind the header;
-// or null, where it does not begin with one.
+// The front of a CAR file: its roots, its version, and the walk that goes on after the header; or
+// null, if it does not begin with one.
 export const frontOf = async (library, file) => {
   const steps = library.carWalk();
   for (let length = FIRST_HEADER; ; length *= 4) {
@@ -35,8 +35,8 @@ export const frontOf = async (library, file) => {
   }
 };
 
-// Hands out sections in batches, and answers what is missing, and why it stopped before the end.
-// While a window is judged the bytes behind it are read.
+// Hands out sections in batches, and returns what is missing, and why it stopped before the end.
+// While a window is judged the bytes after it are read.
 export const walk = async (library, file, { roots, steps }, { told, isStopped }) => {
   const names = new Names(roots);
   const ended = (fault) => {
@@ -75,8 +75,8 @@ const joined = (front, rest) => {
   return all;
 };
 
-// What is told of the sections of a window that begins at `from`: of each where it begins, where its
-// block does and where it ends; what is said of it; its CID.
+// What is told of the sections of a window that begins at `from`: for each where it begins, where
+// its block does and where it ends; its verdict; its CID.
 const batchOf = (bytes, from, { codes, places }) => {
   const count = codes.length;
   const told = {
@@ -106,7 +106,7 @@ class Names {
     this.links = 0;
   }
 
-  // The links are those of all the sections, a byte of length before each.
+  // The links of all the sections, with a byte of length before each.
   take({ codes, lengths, cids }, links) {
     const keys = cidKey(cids);
     let at = 0;
@@ -125,8 +125,8 @@ class Names {
     }
   }
 
-  // A CID by the identity holds its block: the links of that one are followed. What is added to a
-  // set meanwhile comes later.
+  // A CID by the identity hash holds its block: the links of that one are followed. What is added
+  // to a set meanwhile comes later.
   missing(library) {
     const lost = [];
     for (const key of this.wanted) {

@@ -32,7 +32,7 @@ export class CarView {
     return this.sections.find(cid) !== undefined;
   }
 
-  // What is said of the file as a whole.
+  // The verdict on the file as a whole.
 
   summary() {
     this.banner = make('div.banner.is-note');
@@ -85,7 +85,7 @@ export class CarView {
     this.said.textContent = `${all} ${parts.length ? `${parts.join(', ')}.` : ''}`;
     if (fault) {
       const { name, asks } = faultOf(fault.code);
-      const where = ` At byte ${grouping(fault.at)}, where a section is to begin.`;
+      const where = ` At byte ${grouping(fault.at)}, where a section should begin.`;
       const text = `${where} ${asks} What is missing is not known.`;
       this.banner.append(make('p', make('code.name', name), text));
     }
@@ -179,7 +179,7 @@ export class CarView {
 
   async walk() {
     const told = ({ batch, at }) => {
-      if (this.isEnded) return; // what comes behind Stop is not shown
+      if (this.isEnded) return; // what comes after Stop is not shown
       this.sections.add(batch);
       this.readTo = at;
       this.planned ??= setTimeout(() => this.refresh(), BETWEEN_LOOKS);

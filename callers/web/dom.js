@@ -25,7 +25,7 @@ export const button = (text, act, classes = '') => {
   return element;
 };
 
-// The list, of which so many are shown at once, with a button for more; `made` makes each.
+// The list, some of which is shown at once, with a button for more; `made` makes each.
 export const growing = (list, all, atOnce, made) => {
   const more = button('', () => add(), '.quiet.more');
   let shown = 0;
@@ -56,7 +56,7 @@ export const copier = (text, told, label = 'Copy') => {
   return element;
 };
 
-// Where a page has no clipboard, as one from disk has in some browsers.
+// For a page without a clipboard, as one from disk is in some browsers.
 const copyOld = (text) => {
   const area = make('textarea.unseen');
   area.value = text;

@@ -7,7 +7,7 @@ const RECORD = [
 
 const REFUSED = 'a2646e616d6566486f70706572657965617273821907721817';
 
-// Five sections; of the third one letter was changed.
+// Five sections; one letter of the third was changed.
 const DAMAGED = [
   'OqJlcm9vdHOB2CpYJQABcRIgUcqOyQi+XMsBERYshZ2MGqw0F8xYjavkdNN5eKyye8lndmVyc2lvbgHqAQFxEiBR',
   'yo7JCL5cywERFiyFnYwarDQXzFiNq+R003l4rLJ7yaRkbmFtZWVBIGRheWR5ZWFyGQe1ZWNvdmVy2CpYJQABVRIg',

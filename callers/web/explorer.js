@@ -1,4 +1,4 @@
-// A block's tree and bytes beside each other, of which either marks the other, and the picked item.
+// A block's tree and bytes beside each other, each of which marks the other, and the picked item.
 
 import { BYTES, INTEGER, LINK, NEGATIVE, TEXT } from './kinds.js';
 import { FAULT, payloadOf, tokenAt } from './shape.js';
@@ -16,7 +16,7 @@ const HOW_TO_POINT = 'Point at an item or a byte to see the one in the other; pi
   + ' Arrow keys move, and P copies its path.';
 
 export class Explorer {
-  // `block` has the bytes, and its items where it has a tree; `why` says why it has none.
+  // `block` has the bytes, and its items if it has a tree; `why` says why it has none.
   constructor(block, { why, fault, name, follow, canFollow }) {
     Object.assign(this, { block, fault, follow, canFollow });
     this.shape = block.items?.shape ?? null;
@@ -137,7 +137,7 @@ export class Explorer {
     }
   }
 
-  // Its path, for who asks for it in another place.
+  // Its path, for whoever asks for it in another place.
   pathLine(token) {
     const { items } = this.block;
     const path = pathTo(items, items.valueOf(token));
@@ -147,7 +147,7 @@ export class Explorer {
     return make('p.hint', 'Path ', make('bdi.path', path || '(empty)'), ' ', copy);
   }
 
-  // Where it stands, and of what it is made.
+  // Its place, and what it is made of.
   spread(token) {
     const { start, end, place } = this.shape;
     const { items, bytes } = this.block;

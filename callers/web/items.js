@@ -121,7 +121,7 @@ export class Items {
     return toHex(all.subarray(0, MOST_BYTES)) + (all.length > MOST_BYTES ? '…' : '');
   }
 
-  // How one goes there from the front: a.b[3]
+  // The way there from the front: a.b[3]
   path(i) {
     const parts = [];
     for (let at = i; this.shape.parent[at] >= 0; at = this.shape.parent[at]) {

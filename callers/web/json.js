@@ -19,8 +19,8 @@ const valueText = (bytes, shape, i) => {
   }
 };
 
-// The text, cut where it is longer than `most`. `isReserved` where a map has the key "/", which
-// DAG-JSON keeps for links and byte strings.
+// The text, cut if it is longer than `most`. `isReserved` if a map has the key "/", which DAG-JSON
+// keeps for links and byte strings.
 export const writeJson = (bytes, shape, indent, most = Infinity) => {
   const parts = [];
   const open = []; // the lists and maps around

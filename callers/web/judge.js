@@ -4,7 +4,7 @@ import { shapeOf, addFault } from './shape.js';
 
 const MOST_TOKENS = 4_000_000;
 
-// The place is -1 where nothing is refused; the shape is null where there are too many tokens.
+// The place is -1 if nothing is refused; the shape is null if there are too many tokens.
 export const judge = (library, bytes) => {
   const name = library.name(bytes);
   const { code, count, place, tape } = library.tokens(bytes, MOST_TOKENS);

@@ -1,4 +1,4 @@
-// Numbers of the library: the kinds of tokens, and of what is refused those that the page asks for.
+// Numbers of the library: the kinds of tokens, and the refusals that the page asks for.
 
 export const NULL = 0;
 export const BOOL = 1;
@@ -10,7 +10,7 @@ export const MAP = 6;
 export const LINK = 7;
 export const NEGATIVE = 8;
 
-// What is said of a section's block.
+// The verdict on a section's block.
 export const OTHER_CODEC = 9;
 export const OTHER_BYTES = -22;
 export const NOT_VERIFIED = -23;
@@ -20,5 +20,5 @@ export const MORE_BYTES = 10; // are wanted before it is known
 export const THE_HEADER = 11;
 export const THE_END = 12;
 
-// Of this page alone: a section that it does not read.
+// Only of this page: a section that it does not read.
 export const TOO_LONG = -100;

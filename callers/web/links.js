@@ -6,7 +6,7 @@ import { button, copier, growing, make } from './dom.js';
 
 const LINKS_AT_ONCE = 200;
 
-// A CID, what it says, and the way to its block where that is in the file.
+// A CID, what it says, and the way to its block if that is in the file.
 export const linkLine = (cid, { canFollow, follow }) => {
   const { version, codec, hash } = cidParts(cid);
   const text = cidText(cid);

@@ -10,7 +10,7 @@ import { EXAMPLES } from './examples.js';
 import { fromText, sizeOf } from './text.js';
 
 const MOST_BLOCK = 256 << 20;
-const WANTED = 'The page wants a browser with WebAssembly of 64-bit memory.';
+const WANTED = 'The page needs a browser with WebAssembly of 64-bit memory.';
 
 const at = (id) => document.getElementById(id);
 const asker = new Asker();
@@ -79,7 +79,7 @@ const say = (text) => {
   at('said').hidden = !text;
 };
 
-// That something is being judged, where that takes long enough to be seen.
+// Says that something is being judged, if that takes long enough to be seen.
 const LONG = 300; // milliseconds
 
 const busyWith = async (title, act) => {

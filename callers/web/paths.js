@@ -1,4 +1,4 @@
-// Paths, as a/0/b: the one to an item, and the item to which one leads, which the library says.
+// Paths, such as a/0/b: the one to an item, and the item to which one leads, as the library says.
 
 import { LINK, LIST } from './kinds.js';
 import { tokenAt } from './shape.js';
@@ -9,7 +9,7 @@ let follower; // the library, which follows a path in a block
 
 export const followBy = (it) => { follower = it; };
 
-// Null where a key on the way is empty or has a slash: no path has such a segment.
+// Null if a key on the way is empty or has a slash: no path has such a segment.
 export const pathTo = (items, value) => {
   const { parent, order } = items.shape;
   const segments = [];
@@ -21,8 +21,8 @@ export const pathTo = (items, value) => {
   return segments.every((it) => it && !it.includes('/')) ? segments.join('/') : null;
 };
 
-// The last item to which a front of the path leads in a block, what is left of the path, and whether
-// it goes on in the block of a link.
+// The last item to which a front of the path leads in a block, what is left of the path, and if it
+// goes on in the block of a link.
 export const itemAt = ({ bytes, items }, path) => {
   const text = toUtf8.encode(path);
   const { begin, passed, kind } = follower.follow(bytes, text);

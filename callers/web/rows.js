@@ -1,4 +1,4 @@
-// Rows of one height in a box that scrolls, of which only those that are seen exist.
+// Rows of one height in a box that scrolls. Only those that are seen exist.
 
 import { make } from './dom.js';
 

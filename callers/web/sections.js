@@ -63,8 +63,8 @@ export class Sections {
     return this.ends[i] - this.blocks[i];
   }
 
-  // Those of a group whose CID has this in its text. It lets the page answer in between, and is null
-  // where it is no longer wanted.
+  // The sections of a group whose CID has this in its text. It lets the page answer in between, and
+  // is null if it is no longer wanted.
   async chosen(group, part, isWanted) {
     const [, , has] = GROUPS.find(([name]) => name === group);
     const found = [];
@@ -80,7 +80,7 @@ export class Sections {
 
 const CID_END = 8;
 
-// Its end is always shown, since those of one kind begin alike.
+// Its end is always shown, because those of one kind begin alike.
 const cidCell = (text) => make('span.cid', make('span.cid-front', text.slice(0, -CID_END)),
   make('span.cid-end', text.slice(-CID_END)));
 

@@ -58,7 +58,7 @@ const close = (shape, open, end) => {
   while (open.length && !open[open.length - 1].left) shape.end[open.pop().token] = end;
 };
 
-// A last token where the reading stopped, at the byte `place`: it begins behind the last one that
+// A last token where the reading stopped, at the byte `place`: it begins after the last one that
 // stands whole.
 export const addFault = (shape, place) => {
   const i = shape.count;
@@ -74,7 +74,7 @@ export const addFault = (shape, place) => {
   shape.count = i + 1;
 };
 
-// How many bytes are behind a token's head.
+// How many bytes are after a token's head.
 export const payloadOf = (shape, i) => {
   const kind = shape.kind[i];
   return kind === TEXT || kind === BYTES || kind === LINK ? Number(shape.number[i]) : 0;

@@ -11,7 +11,7 @@ const NUMBER = /-?(0|[1-9][0-9]*)(\.[0-9]+)?([eE][+-]?[0-9]+)?/y;
 const STRING = /"(?:[^"\\\u0000-\u001f]|\\(?:["\\/bfnrt]|u[0-9a-fA-F]{4}))*"/y;
 const DEPTH = 1000;
 
-// The payloads, one behind the other, and the tokens over them.
+// The payloads, one after the other, and the tokens over them.
 export const tokensOf = (text) => {
   const value = new Reader(text).whole();
   const [parts, tokens] = [[], []];
@@ -85,12 +85,12 @@ class Reader {
   whole() {
     const value = this.value(0);
     this.space();
-    if (this.at < this.text.length) this.fail('something stands after the value');
+    if (this.at < this.text.length) this.fail('something follows the value');
     return value;
   }
 
   value(depth) {
-    if (depth > DEPTH) this.fail('lists and maps are too deep in each other');
+    if (depth > DEPTH) this.fail('lists and maps are nested too deep');
     this.space();
     for (const [word, kind, number] of [['null', NULL, 0], ['true', BOOL, 1], ['false', BOOL, 0]]) {
       if (this.text.startsWith(word, this.at)) {
@@ -107,10 +107,10 @@ class Reader {
   number() {
     const from = this.at;
     const digits = this.match(NUMBER);
-    if (!digits) this.fail('a value is wanted here');
+    if (!digits) this.fail('a value is missing here');
     if (/[.eE]/.test(digits)) {
       this.at = from;
-      this.fail('floats have no place in these blocks: an integer is wanted');
+      this.fail('floats have no place in these blocks: write an integer');
     }
     const number = BigInt(digits);
     const most = 1n << 64n;
@@ -120,9 +120,9 @@ class Reader {
 
   string() {
     const quoted = this.match(STRING);
-    if (!quoted) this.fail('a text in quotes is wanted here');
+    if (!quoted) this.fail('a text in quotes is missing here');
     const text = JSON.parse(quoted);
-    if (/\p{Surrogate}/u.test(text)) this.fail('half a surrogate pair is no text');
+    if (/\p{Surrogate}/u.test(text)) this.fail('half a surrogate pair is not text');
     return encoder.encode(text);
   }
 
@@ -141,7 +141,7 @@ class Reader {
     do {
       this.space();
       const key = this.string();
-      if (!this.take(':')) this.fail('behind a key stands :');
+      if (!this.take(':')) this.fail('a key is followed by :');
       entries.push({ key, value: this.value(depth) });
     } while (this.take(','));
     if (!this.take('}')) this.fail('a map ends with }');
@@ -151,7 +151,7 @@ class Reader {
     }
     entries.sort((a, b) => compared(a.key, b.key));
     if (entries.some((it, n) => n && compared(entries[n - 1].key, it.key) === 0)) {
-      this.fail('a key stands twice');
+      this.fail('a key comes twice');
     }
     return { kind: MAP, entries };
   }
@@ -161,7 +161,7 @@ class Reader {
     const decoder = new TextDecoder();
     if (value.kind === TEXT) {
       const bytes = cidFrom(decoder.decode(value.bytes));
-      if (typeof bytes === 'number') this.fail(`no text of a CID: ${textFaultOf(bytes)}`);
+      if (typeof bytes === 'number') this.fail(`not the text of a CID: ${textFaultOf(bytes)}`);
       return { kind: LINK, bytes };
     }
     const [held, more] = value.kind === MAP ? value.entries : [];

@@ -22,11 +22,11 @@ export const fromBase64 = (text) => {
   const plain = text.replace(/-/g, '+').replace(/_/g, '/').replace(/=+$/, '');
   if (!/^[A-Za-z0-9+/]*$/.test(plain) || plain.length % 4 === 1) return null;
   const units = atob(plain);
-  if (btoa(units).replace(/=+$/, '') !== plain) return null; // bits behind the last byte
+  if (btoa(units).replace(/=+$/, '') !== plain) return null; // bits after the last byte
   return Uint8Array.from(units, (it) => it.charCodeAt(0));
 };
 
-// Hexadecimal where it can be, else base64: what it was read as and the bytes, or null.
+// Hexadecimal if it can be that, else base64: what it was read as and the bytes, or null.
 export const fromText = (text) => {
   const hex = text.replace(/^\s*0x/i, '').replace(/[\s:,]+/g, '');
   if (/^[0-9a-f]*$/i.test(hex) && hex.length % 2 === 0) {
@@ -57,7 +57,7 @@ const escaped = (it) => {
   return `\\u{${it.codePointAt(0).toString(16)}}`;
 };
 
-// In quotes, with all that does not show escaped; cut where it is longer.
+// In quotes, with everything that does not show escaped; cut if it is longer.
 export const quoted = (text, most = Infinity) => {
   const cut = text.length > most ? text.slice(0, most) : text;
   const shown = cut.replace(/["\\]/g, '\\$&').replace(UNSEEN, escaped);

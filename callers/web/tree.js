@@ -48,7 +48,8 @@ export class Tree {
     this.host.scrollTop = 0;
   }
 
-  // The outer lists and maps, as long as there is room; and those around where reading stopped.
+  // The outer lists and maps, as long as there is room; and those around the place where reading
+  // stopped.
   openSome() {
     const { shape } = this.items;
     let [level, rows] = [[0], 1];

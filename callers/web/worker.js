@@ -1,5 +1,5 @@
-// The thread that judges. Each message has a number, and so has its answer; those of a walk come in
-// batches before it.
+// The thread that judges. Each message has a number, and its answer has the same; those of a walk
+// come in batches before it.
 
 import { load } from './dagcbor.js';
 import { readBy } from './cid.js';
@@ -18,7 +18,7 @@ const calls = {
     return {};
   },
 
-  // Whether it is a CAR file, by its front.
+  // Says by its front if it is a CAR file.
   async look({ file }) {
     return { front: await frontOf(library, file) };
   },

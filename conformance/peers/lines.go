@@ -8,8 +8,8 @@ import (
 	"os"
 )
 
-// What answers a subject: of `writing` a line, of all else the bytes of a line of hexadecimal. What stands behind `ok` is
-// the second value, or else the first in hexadecimal.
+// Answers a subject: for `writing` from a line, for all else from the bytes of a line of hexadecimal. What comes after
+// `ok` is the second value, or else the first in hexadecimal.
 type answers func(given []byte) (bytes []byte, words string, err error)
 
 func rewriting(rewrite func(block []byte) ([]byte, error)) answers {

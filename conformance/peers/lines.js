@@ -1,8 +1,9 @@
 // The loop of the peers in Node: a line in, a line out. A word of the command line names what the lines are, if not blocks.
 'use strict';
 
-// `rewrite` answers what is written again of the bytes of a block, or throws; of other subjects the others answer what stands behind
-// `ok`: of `writing` the line; of `paths` and `segments` a block, and a text or a list of texts; of all else the bytes.
+// `rewrite` returns what is written again from the bytes of a block, or throws. For other subjects the others return
+// what comes after `ok`: for `writing` from the line; for `paths` and `segments` from a block, and a text or a list of
+// texts; for all else from the bytes.
 exports.serve = async (rewrite, around = {}) => {
   const subject = process.argv.slice(2).find((it) => it in around);
   const answers = subject ? around[subject] : async (block) => Buffer.from(rewrite(block)).toString('hex');

@@ -11,8 +11,8 @@ import cidtexts
 
 
 def serve(rewrite, **around):
-    """`rewrite` answers what is written again of the bytes of a block, or raises; of other subjects the others answer what stands
-    behind `ok`: of `writing` the line; of `paths` and `segments` a block, and a text or a list of texts; of all else the bytes."""
+    """`rewrite` returns what is written again from the bytes of a block, or raises. For other subjects the others return what comes
+    after `ok`: for `writing` from the line; for `paths` and `segments` from a block, and a text or list of texts; else from the bytes."""
     subject = next((it for it in sys.argv[1:] if it.replace("-", "_") in around), None)
     answers = around[subject.replace("-", "_")] if subject else lambda block: rewrite(block).hex()
     for line in sys.stdin:
@@ -35,7 +35,7 @@ def given_of(subject, line):
 
 
 def data_of(line, link):
-    """The data of a line of DAG-JSON: of a binary CID what `link` makes of it."""
+    """The data of a line of DAG-JSON: `link` makes the data of a binary CID."""
 
     def of(found):
         if isinstance(found, list):

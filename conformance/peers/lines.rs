@@ -6,8 +6,8 @@ pub fn hex(bytes: &[u8]) -> String {
     bytes.iter().map(|it| format!("{it:02x}")).collect()
 }
 
-/// `answer` gives what stands behind `ok`, or behind `refused`, of a subject and a line: of `writing` the line itself, of all else the
-/// bytes that it tells in hexadecimal.
+/// `answer` gives what comes after `ok`, or after `refused`, for a subject and a line: for `writing` from the line
+/// itself, for all else from the bytes that it tells in hexadecimal.
 pub fn serve(answer: impl Fn(&str, &[u8]) -> Result<String, String>) -> io::Result<()> {
     let subject = std::env::args()
         .nth(1)

@@ -21,7 +21,7 @@ LONG_KEY = "com.example.collection.definitions#thePartOfAUnion"
 
 
 def within(levels, inner, around):
-    """A value in so many others."""
+    """A value in this many others."""
     for _ in range(levels):
         inner = around(inner)
     return inner

@@ -299,7 +299,7 @@ test('streams as the judge tells them', { skip }, async () => {
     for (const path of paths) {
       const found = await saidOf(fs.createReadStream(join(folder, path)));
       const [said, lines] = ['said', 'told'].map((it) => textOf(path.replace('frames', it)));
-      // The program goes on after a frame that is none.
+      // The program goes on after bytes that are not a frame.
       assert.ok(said.startsWith(found.said) && lines.startsWith(found.lines), path);
       if (!found.isPart) assert.deepStrictEqual(found, { said, lines, isPart: false }, path);
     }

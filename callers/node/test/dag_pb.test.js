@@ -1,4 +1,4 @@
-// The package in the place of `@ipld/dag-pb`.
+// The package in place of `@ipld/dag-pb`.
 'use strict';
 const assert = require('node:assert');
 const { test } = require('node:test');

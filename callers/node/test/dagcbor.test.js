@@ -35,7 +35,7 @@ test('the vectors hold', () => {
         assert.deepStrictEqual(links(block).map(String), it.links);
       } else {
         for (const call of [check, tape, decode]) refuses(() => call(block), it.variant, it.at);
-        // What is behind the first item is not looked at for its links.
+        // What comes after the first item is not looked at for its links.
         if (it.variant === 'TrailingData') {
           assert.deepStrictEqual(links(block), links(block.subarray(0, it.at)));
         } else refuses(() => links(block), it.variant);

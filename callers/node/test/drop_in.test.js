@@ -1,5 +1,4 @@
-// The package in the place of `@ipld/dag-cbor` and beside `multiformats` (multiformats.js, a
-// stand-in).
+// The package in place of `@ipld/dag-cbor` and beside `multiformats` (multiformats.js, a stand-in).
 'use strict';
 const assert = require('node:assert');
 const { inspect } = require('node:util');

@@ -108,7 +108,7 @@ test('getters that change what they answer', () => {
   }));
   Object.defineProperty(shifting, 'z', { value: 'Z', configurable: true });
   assert.throws(() => encode(shifting), { name: 'DagCborError', kind: 'Unsupported' });
-  // Of few, some and many keys: one that goes is refused, one that comes is not written.
+  // For few, some and many keys: one that goes is refused, one that comes is not written.
   for (const count of [2, 20, 200]) {
     const going = own(count, (made) => ({ get k000() { delete made.k001; return 1; } }));
     assert.throws(() => encode(going), { name: 'DagCborError', kind: 'Unsupported' });

@@ -61,7 +61,7 @@ const ours: CID = name(block);
 const theirs: ForeignCid = ours;
 encode({ theirs, ours, map: new Map([['a', 1]]) });
 verify(theirs, block);
-// @ts-expect-error: what another package made is none of this class
+// @ts-expect-error: what another package made is not of this class
 const none: CID = theirs;
 const check: Promise<CarCheck> = dagcbor.checkCar([block]);
 const kept = async (path: URL): Promise<CID[]> => {

@@ -15,8 +15,8 @@ const OTHERS = -22; // bytes than those that are named
 const CID_MOST = 86;
 const CID_TEXT_MOST = 139;
 
-// The module's memory behind its own: 64 bytes for numbers or a name, then the bytes that a call is
-// about, then room for what it answers.
+// The module's memory after its own: 64 bytes for numbers or a name, then the bytes that a call is
+// about, then room for what it returns.
 class Room {
   constructor({ memory, __heap_base }) {
     this.memory = memory;
@@ -36,12 +36,12 @@ class Room {
     }
   }
 
-  // The address of what stands so far behind the front.
+  // The address that is this far after the front.
   address(at) {
     return BigInt(this.base + FRONT + at);
   }
 
-  // The address and the length of the bytes, which are put there, with room for more behind them.
+  // The address and the length of the bytes, which are put there, with room for more after them.
   put(bytes, room = 1) {
     this.reserve(bytes.length + room);
     new Uint8Array(this.memory.buffer).set(bytes, this.base + FRONT);
@@ -57,8 +57,9 @@ class Room {
     return new Uint8Array(this.memory.buffer, this.base + FRONT + at, length).slice();
   }
 
-  // What a call answers that puts parts of a size behind the bytes; where they stand, and their length.
-  // It has room for so many at first, and is asked again if it tells of more, unless these are too many.
+  // The answer of a call that puts parts of a size after the bytes; where they stand, and their
+  // length. It has room for this many at first, and is asked again if it tells of more, unless
+  // these are too many.
   ask(call, bytes, { size = 1, few = 0, most = Infinity, out = behind(bytes.length) } = {}) {
     const given = this.put(bytes);
     for (let count = few; ; count = this.number()) {
@@ -76,13 +77,13 @@ class Room {
   }
 }
 
-// Where tokens stand behind so many bytes: at a multiple of 8.
+// Where tokens stand after this many bytes: at a multiple of 8.
 const behind = (length) => Math.ceil(length / 8) * 8;
 
 // A number of the library, or what is made of its other answers.
 const told = (answer, make) => (typeof answer === 'number' ? answer : make(answer));
 
-// CIDs, each behind a byte of length.
+// CIDs, each after a byte of length.
 const unpacked = (packed) => {
   const found = [];
   for (let at = 0; at < packed.length; at += 1 + packed[at]) {
@@ -91,8 +92,9 @@ const unpacked = (packed) => {
   return found;
 };
 
-// The block that a CID by the identity holds itself, and what is said of it, or null: what it ends with,
-// behind the byte that says how long, if the library says that this is the block of this name.
+// The block that a CID by the identity hash holds itself, and the verdict on it, or null: what it
+// ends with, after the byte that says how long, if the library says that this is the block of this
+// name.
 const heldBy = (verify) => (cid) => {
   for (let at = 4; at <= cid.length; at++) {
     const block = cid.subarray(at);
@@ -102,7 +104,7 @@ const heldBy = (verify) => (cid) => {
   return null;
 };
 
-// The addresses and the lengths of both, the text behind the block.
+// The addresses and the lengths of both, the text after the block.
 const putBoth = (room, block, text) => {
   const given = room.put(block, text.length + 1);
   new Uint8Array(room.memory.buffer).set(text, room.base + FRONT + block.length);
@@ -124,27 +126,27 @@ const answering = (calls, room) => ({
     const [code, out, length] = room.ask(calls.dagcbor_compact_tape, block, given);
     return code < 0 ? code : new Uint32Array(room.memory.buffer, room.base + FRONT + out, length / 4);
   },
-  // The number of what is said of a block under the name that the bytes of a CID are.
+  // The number of the verdict on a block under the name that the bytes of a CID are.
   verify: (cid, block) => calls.dagcbor_verify(...putBoth(room, cid, block)),
-  // Of any bytes: the number of the kind or of the refusal; the place of the refusal, which is the
-  // length where there is none; how many tokens stand before it, and the tokens, or null where they
-  // are more than `most`.
+  // For any bytes: the number of the kind or of the refusal; the place of the refusal, which is the
+  // length if there is none; how many tokens stand before it, and the tokens, or null if there are
+  // more than `most`.
   tokens: (bytes, most = Infinity) => {
     const [code, out, length] = room.ask(calls.dagcbor_tokens, bytes, { ...TOKENS, most });
     const [count, place] = [room.number(0), room.number(1)];
     const tape = count > most ? null : new BigUint64Array(room.copy(out, length).buffer);
     return { code, place, count, tape };
   },
-  // The number of a refusal; or the kind of the last item to which a front of the path leads, whose
-  // UTF-8 it is, where the item begins and ends, and how many bytes of the path lead there.
+  // The number of a refusal; or the kind of the last item to which a front of the path leads, given
+  // as UTF-8, where the item begins and ends, and how many bytes of the path lead there.
   follow: (block, path) => {
     const kind = calls.dagcbor_follow(...putBoth(room, block, path), room.front);
     if (kind < 0) return kind;
     const [begin, end, passed] = [0, 1, 2].map((n) => room.number(n));
     return { kind, begin, end, passed };
   },
-  // The number of a refusal, or -36 where the segment, whose UTF-8 it is, leads nowhere; or the kind
-  // of the part of the block's item to which it leads, taken whole, and where that begins and ends.
+  // The number of a refusal, or -36 if the segment, given as UTF-8, leads nowhere; or the kind of
+  // the part of the block's item to which it leads, taken whole, and where that begins and ends.
   part: (block, segment) => {
     const kind = calls.dagcbor_part(...putBoth(room, block, segment), room.front, room.front + 8n);
     return kind < 0 ? kind : { kind, begin: room.number(0), end: room.number(1) };
@@ -166,7 +168,7 @@ const answering = (calls, room) => ({
   nodeLinks: (node) => told(room.take(calls.dagcbor_node_links, node, { few: node.length }), unpacked),
   // The number of a refusal, or the data model of a block of DAG-PB, as a block of DAG-CBOR.
   fromNode: (node) => room.take(calls.dagcbor_from_node, node),
-  // Where the fault stands for which bytes are no block of DAG-PB.
+  // The place of the fault for which bytes are not a block of DAG-PB.
   placeInNode: (bytes) => {
     room.ask(calls.dagcbor_from_node, bytes);
     return room.number(1);

@@ -1,12 +1,12 @@
 #!/usr/bin/env python3
-"""Whether a repository (AT Protocol) is whole, and its commit is signed by a key.
+"""Checks that a repository (AT Protocol) is whole, and that a key signed its commit.
 
     check_commit.py REPO.CAR DID_KEY
 
-The key is what the account's DID document says, as `did:key:z..`: of P-256, or of K-256 (secp256k1). What is signed is SHA-256 of
-the commit's other fields as DAG-CBOR; the signature is two numbers of 32 bytes, the second of which is at most half of the curve's
-order. The arithmetic is that of the package `cryptography`. That the records are those of the commit is verified by `read_repo`.
-The status is 0 where it is signed."""
+The key is what the account's DID document says, as `did:key:z..`: of P-256, or of K-256 (secp256k1). The signed bytes are the
+SHA-256 of the commit's other fields as DAG-CBOR. The signature is two numbers of 32 bytes, and the second is at most half of the
+curve's order. The arithmetic is that of the package `cryptography`. `read_repo` verifies that the records are those of the commit.
+The status is 0 if the key signed it."""
 
 import sys
 
@@ -15,7 +15,7 @@ from cryptography.hazmat.primitives.asymmetric import ec, utils
 from cryptography.hazmat.primitives.hashes import SHA256
 from dagcbor import DagCborError, read_repo
 
-# The curve and its order, by what stands before a key's point (multicodec table).
+# The curve and its order, by what comes before a key's point (multicodec table).
 CURVES = {
     b"\x80\x24": (ec.SECP256R1(), 0xFFFFFFFF00000000FFFFFFFFFFFFFFFFBCE6FAADA7179E84F3B9CAC2FC632551),
     b"\xe7\x01": (ec.SECP256K1(), 0xFFFFFFFFFFFFFFFFFFFFFFFFFFFFFFFEBAAEDCE6AF48A03BBFD25E8CD0364141),
@@ -24,7 +24,7 @@ DIGITS = "123456789ABCDEFGHJKLMNPQRSTUVWXYZabcdefghijkmnopqrstuvwxyz"
 
 
 def key_of(did):
-    """The key of a `did:key`, and the order of its curve."""
+    """Returns the key of a `did:key`, and the order of its curve."""
     front, digits = did[:9], did[9:]
     if front != "did:key:z" or not digits or set(digits) - set(DIGITS):
         raise ValueError("no did:key in base58")
@@ -39,7 +39,7 @@ def key_of(did):
 
 
 def is_signed(repo, did):
-    """Whether this key signed the repository's commit."""
+    """Returns true if this key signed the repository's commit."""
     key, order = key_of(did)
     r, s = int.from_bytes(repo.sig[:32], "big"), int.from_bytes(repo.sig[32:], "big")
     if len(repo.sig) != 64 or s > order // 2:

@@ -3,8 +3,8 @@
 
     make_stream.py FRAMES KEYS
 
-FRAMES becomes the frames, one after the other, and KEYS the accounts' keys in JSON, as their DID documents would say them: one is
-of P-256, and one of K-256. The frames are those of conformance/events.py."""
+FRAMES becomes the frames, one after the other. KEYS becomes the accounts' keys in JSON, as their DID documents would say them: one
+is of P-256, and one of K-256. The frames are those of conformance/events.py."""
 
 import json
 import os
@@ -45,7 +45,7 @@ class Account:
         return r.to_bytes(32, "big") + min(s, self.order - s).to_bytes(32, "big")
 
     def frame(self, rng, number, count):
-        """The frame of the next commit, of so many operations."""
+        """Returns the frame of the next commit, with this many operations."""
         ops, after = events.change(rng, self.entries, count, self.pool)
         commit, blocks, before = events.good(rng, self.entries, ops, after)
         rev, self.entries = f"3kabcdefg{number:04}", after

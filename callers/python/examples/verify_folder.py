@@ -5,14 +5,14 @@ worker.
     verify_folder.py [--scheduler ADDRESS] [--parts N] PATH..
 
 A path is a file, or a folder, of which each file that ends with .car is taken; workers read them
-under the same names. Without an address workers are started on this machine. A line tells the
-verdicts on each file, and why it is none from some place on, or was not read. Then `missing <CID>`
-comes for each root and link that leads to no verified block of any of the files. The status is 0
-where all is well.
+under the same names. Without an address, workers are started on this machine. A line tells the
+verdicts on each file, and why it is not a CAR file from some place on, or was not read. Then
+`missing <CID>` comes for each root and link that leads to no verified block of any of the files. The
+status is 0 if all is well.
 
-Names never come together on one machine: those that a file holds, and those that it links to and
-does not hold, are divided into parts by a hash of the name, and what is missing is found part by
-part. Only what is missing comes back."""
+Names never come together on one machine. The names that a file holds, and those that it links to and
+does not hold, are divided into parts by a hash of the name, and each part tells what is missing in
+it. Only what is missing comes back."""
 
 import argparse
 import pathlib
@@ -28,7 +28,7 @@ PARTS = 64
 
 
 def divided(names, parts):
-    """The names, packed: of each part a byte of length before each."""
+    """The names, packed: for each part, with a byte of length before each name."""
     packed = [bytearray() for _ in range(parts)]
     for name in map(bytes, names):
         part = packed[zlib.crc32(name) % parts]
@@ -46,8 +46,8 @@ def unpacked(packed):
 
 
 def verified(path, parts):
-    """What is said of a file; and of each part its number, and the names that the file holds and
-    wants."""
+    """Returns what is said of a file; and for each part its number, and the names that the file holds
+    and wants."""
     report = {"path": str(path), "verdicts": {}, "refused": None}
     found = None
     try:
@@ -55,7 +55,7 @@ def verified(path, parts):
             found = check_car(file)
     except CarError as error:
         report["refused"] = f"refused {error.kind} at {error.place}"
-        found = error.checked  # what stands before that place counts
+        found = error.checked  # verdicts before that place count
     except OSError as error:
         report["refused"] = f"not read: {error}"
     if found is None:
@@ -66,7 +66,7 @@ def verified(path, parts):
 
 
 def missing_in(group):
-    """The names of a part that some files want and none holds. Those that are held make no set."""
+    """Returns the names of a part that some files want and none holds. Those that are held make no set."""
     _, pieces = group
     missing = set()
     for _, _, wanted in pieces:
@@ -81,11 +81,11 @@ def number_of(piece):
 
 
 def verify(paths, parts=PARTS):
-    """The reports on the files, in their order, and the CIDs that lead to no block of any."""
+    """Returns the reports on the files, in their order, and the CIDs that lead to no block of any file."""
     files = dask.bag.from_sequence(paths, partition_size=1).map(verified, parts)
     pieces = files.pluck(1).flatten()
     missing = pieces.groupby(number_of, shuffle="tasks").map(missing_in).flatten()
-    # Both in one go: so each file is gone through once.
+    # Both at once, so each file is read once.
     reports, names = dask.compute(files.pluck(0), missing)
     return reports, sorted(map(CID, names))
 
@@ -115,7 +115,7 @@ def main():
     given = words.parse_args()
     paths = [file for path in given.paths for file in files_in(path)]
     if not paths:
-        sys.exit("no files there")
+        sys.exit("there are no files")
     with Client(given.scheduler) if given.scheduler else Client(dashboard_address=None):
         reports, missing = verify(paths, given.parts)
     for report in reports:

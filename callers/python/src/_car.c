@@ -11,8 +11,8 @@ enum {
     SLICE = 1 << 22  /* of a file, that is checked before signals are asked for */
 };
 
-/* Where the bytes come from: a file's method `read`, or a buffer; and what SHA-256 is computed by, or
-   NULL. */
+/* Where the bytes come from: a file's method `read`, or a buffer; and what computes SHA-256, or
+ * NULL. */
 typedef struct {
     PyObject *read;
     PyObject *buffer;
@@ -26,7 +26,7 @@ static void source_free(Source *source) {
     Py_CLEAR(source->sha256);
 }
 
-/* Whether `sha256(block).digest()` is the digest. */
+/* True if `sha256(block).digest()` is the digest. */
 static int is_digest(void *sha256, const uint8_t *block, size_t length, const uint8_t digest[32]) {
     PyObject *made = PyObject_CallFunction(sha256, "y#", (const char *)block, (Py_ssize_t)length);
     PyObject *found = made ? PyObject_CallMethod(made, "digest", NULL) : NULL;
@@ -39,7 +39,7 @@ static int is_digest(void *sha256, const uint8_t *block, size_t length, const ui
     return is_same;
 }
 
-/* A `bytes` is lent as it is. Of any other buffer pieces are copied as they are wanted. */
+/* A `bytes` is lent as it is. From any other buffer pieces are copied when they are needed. */
 static int source_open(Source *source, Car *car, PyObject *given, PyObject *sha256) {
     memset(source, 0, sizeof *source);
     if (!Py_IsNone(sha256)) {
@@ -64,7 +64,7 @@ static int gather(Car *car, const Py_buffer *view, size_t from, size_t count) {
     return 0;
 }
 
-/* Reads once, and so gets what it may. */
+/* Reads once, and takes what that gives. */
 static int refill_from_file(Source *source, Car *car) {
     Py_buffer view;
     PyObject *piece = PyObject_CallFunction(source->read, "n", (Py_ssize_t)PIECE);
@@ -92,7 +92,7 @@ static int refill(Source *source, Car *car) {
     return done;
 }
 
-/* The error of what stands at the next place of the file; NULL with another one raised. */
+/* The error for what stands at the next place of the file; NULL if another one is raised. */
 static PyObject *error_in(State *state, const Car *car, int32_t code) {
     if (code == CAR_FAILED) return NULL;
     if (code == CAR_NO_MEMORY) return no_memory();
@@ -104,7 +104,7 @@ static PyObject *error_in(State *state, const Car *car, int32_t code) {
                      place);
 }
 
-/* Takes the front of the file as far as its roots, which it answers. */
+/* Takes the front of the file up to its roots, and returns these. */
 static PyObject *take_roots(State *state, Source *source, Car *car) {
     int32_t code;
     while ((code = car_header(car)) == DAGCBOR_CAR_MORE)
@@ -153,7 +153,7 @@ static int reader_traverse(PyObject *self, visitproc visit, void *arg) {
     return 0;
 }
 
-/* In place of the file there is nothing more. */
+/* Lets go of the file, and puts nothing in its place. */
 static int reader_clear(PyObject *self) {
     CarReader *reader = (CarReader *)self;
     source_free(&reader->source);
@@ -173,7 +173,7 @@ static void reader_dealloc(PyObject *self) {
     Py_DECREF(type);
 }
 
-/* What is said of the next section, or why there is none, where all of it is at hand. */
+/* The verdict on the next section, or why there is none, if all of it is at hand. */
 static int32_t next_section(Car *car, size_t places[3]) {
     int32_t code = car_section(car, car->is_digest ? SIZE_MAX : SHORT_CALL, places);
     if (code != DAGCBOR_CAR_MORE || car->is_digest || car->length <= SHORT_CALL) return code;
@@ -183,7 +183,7 @@ static int32_t next_section(Car *car, size_t places[3]) {
     return code;
 }
 
-/* What is said of a section, in the words of `dagcar check`. */
+/* The verdict on a section, in the words of `dagcar check`. */
 static PyObject *verdict_of(int32_t code) {
     switch (code) {
     case DAGCBOR_NOT_READ: return PyUnicode_FromString("not read");
@@ -295,7 +295,7 @@ static PyObject *pack_names(const Names *names, bool are_held) {
     return packed;
 }
 
-/* Those that are wanted and not held, in their order. */
+/* The names that are wanted and not held, in their order. */
 static PyObject *list_missing(State *state, const Names *names) {
     PyObject *packed = pack_names(names, false);
     PyObject *missing = packed ? unpack(state, bytes_of(packed), length_of(packed)) : NULL;
@@ -304,7 +304,7 @@ static PyObject *list_missing(State *state, const Names *names) {
     return missing;
 }
 
-/* What was found as far as the file was gone through, and the error there or None. */
+/* What was found as far as the file was read, and the error there or None. */
 static PyObject *found_in(State *state, Check *check, PyObject *roots, PyObject *error) {
     PyObject *held = pack_names(&check->names, true);
     if (!held) return NULL;
@@ -321,7 +321,7 @@ static PyObject *found_in(State *state, Check *check, PyObject *roots, PyObject 
     return found;
 }
 
-/* Why the walk over the sections stopped; CAR_FAILED where an error is raised. */
+/* Why the walk over the sections stopped; CAR_FAILED if an error is raised. */
 static int32_t check_all(Source *source, Check *check) {
     for (;;) {
         PyThreadState *held = check->car.is_digest ? NULL : PyEval_SaveThread();
@@ -361,7 +361,7 @@ PyObject *check_car(PyObject *module, PyObject *args) {
     return found;
 }
 
-/* What is said of a block under a name. The lock is let go meanwhile. */
+/* The verdict on a block under a name. The lock is let go meanwhile. */
 PyObject *verdict_on(PyObject *module, PyObject *args) {
     State *state = PyModule_GetState(module);
     PyObject *cid, *given;

@@ -1,9 +1,9 @@
-/* The library for Python, by the limited API: objects out of the tokens of a block, and a block out
-   of objects, which the library judges.
+/* The library for Python, by the limited API: it makes objects from the tokens of a block, and a
+   block from objects, which the library judges.
 
-   A call reads a `bytes`, which nobody writes: what is handed over otherwise, and may be written by
-   other threads and programs meanwhile, is copied into one first. The interpreter's lock is let go
-   while a big block is judged or hashed. */
+   A call reads a `bytes`, which nobody writes. Any other buffer, which other threads and programs
+   may write meanwhile, is copied into one first. The interpreter's lock is let go while a big block
+   is judged or hashed. */
 #include "native.h"
 
 #include "car.h"
@@ -27,7 +27,7 @@ PyObject *to_bytes(PyObject *given) {
     return bytes;
 }
 
-/* Whether it is a CID of another library, as that of `multiformats`. */
+/* True if it is a CID of another library, such as that of `multiformats`. */
 static bool is_foreign_cid(PyObject *given) {
     return PyObject_HasAttrString(given, "__bytes__") && PyObject_HasAttrString(given, "version") &&
            PyObject_HasAttrString(given, "codec") && PyObject_HasAttrString(given, "hashfun");
@@ -46,7 +46,7 @@ void *raise_error(PyObject *error) {
     return NULL;
 }
 
-/* The error of a number of the library. Of the place the reference is taken. */
+/* The error for a number of the library. It takes the reference to the place. */
 static PyObject *error_of(State *state, int32_t code, PyObject *place) {
     PyObject *said = place ? PyUnicode_FromString(reason_of_code(code)) : NULL;
     return new_error(state->error, said, dagcbor_name_of_code(code), place);
@@ -60,7 +60,7 @@ static void *refuse_at(State *state, int32_t code, size_t place) {
     return raise_error(error_of(state, code, PyLong_FromSize_t(place)));
 }
 
-/* The same of a block, in which the place is found. */
+/* The same for a block, in which the place is found. */
 static void *refuse_block(State *state, int32_t code, PyObject *block) {
     size_t needed, place;
     dagcbor_tokens(bytes_of(block), length_of(block), dagcbor_tape_into(NULL, 0), 0, &needed,
@@ -104,14 +104,14 @@ static PyObject *cid_from_text(PyTypeObject *type, PyObject *given) {
     return new_cid(type, cid, needed);
 }
 
-/* Whether the bytes are a CID: its text is not wanted, but whether it has one. */
+/* True if the bytes are a CID: only if they have a text, which is not needed itself. */
 static bool are_cid(const uint8_t *bytes, size_t length) {
     uint8_t text[DAGCBOR_CID_TEXT_MOST];
     size_t needed;
     return dagcbor_cid_text(bytes, length, text, sizeof text, &needed) == 0;
 }
 
-/* A CID of bytes that are to be one. */
+/* Makes a CID of bytes that should be one. */
 static PyObject *judged_cid(PyTypeObject *type, const uint8_t *bytes, size_t length) {
     if (are_cid(bytes, length)) return new_cid(type, bytes, length);
     return refuse(PyType_GetModuleState(type), DAGCBOR_INVALID_CID);
@@ -348,15 +348,15 @@ static PyObject *value_of(const State *state, const char *block, size_t length,
     return value;
 }
 
-/* Room for so many tokens, or NULL with an error raised. */
+/* Room for this many tokens, or NULL with an error raised. */
 static dagcbor_token *room_for(size_t tokens) {
     if (tokens > PY_SSIZE_T_MAX / sizeof(dagcbor_token)) return no_memory();
     dagcbor_token *room = PyMem_Malloc(tokens * sizeof *room);
     return room ? room : no_memory();
 }
 
-/* The value of the item from an offset on, and where it ends, which is asked for where others may
-   follow. */
+/* The value of the item from an offset on. It also finds where the item ends, if others may follow.
+ */
 static PyObject *read_value(State *state, PyObject *block, size_t start, size_t *end) {
     dagcbor_token few[FEW_TOKENS], *tape = few;
     const uint8_t *bytes = bytes_of(block) + start;
@@ -398,7 +398,7 @@ typedef struct {
     int level;
 } Writer;
 
-/* Raises the error of a value that has no block. */
+/* Raises the error for a value that has no block. */
 static int refuse_value(Writer *writer, const char *kind, const char *said, PyObject *value) {
     PyObject *type = NULL, *message = NULL, *place = PyTuple_New(writer->level);
     for (int i = 0; place && i < writer->level; i++) {
@@ -435,7 +435,7 @@ static int add_buffer(Writer *writer, PyObject *given) {
     return done;
 }
 
-/* The text's UTF-8, which the object holds; NULL with an error raised where it has none. */
+/* The text's UTF-8, which the object holds; NULL with an error raised if it has none. */
 static const char *utf8_of(Writer *writer, PyObject *text, size_t *length) {
     Py_ssize_t count;
     const char *bytes = PyUnicode_AsUTF8AndSize(text, &count);
@@ -453,7 +453,7 @@ static int add_text(Writer *writer, PyObject *text) {
     return bytes ? add_payload(writer, DAGCBOR_STRING, bytes, length) : -1;
 }
 
-/* Adds an integer that is no int64_t. What a subclass makes of its methods is not asked. */
+/* Adds an integer that is not an int64_t. Methods of a subclass are not called. */
 static int add_long_integer(Writer *writer, PyObject *given, bool is_negative) {
     unaryfunc invert = (unaryfunc)PyType_GetSlot(&PyLong_Type, Py_nb_invert);
     PyObject *number = is_negative ? invert(given) : Py_NewRef(given);
@@ -488,7 +488,8 @@ static int add_part(Writer *writer, Step step, PyObject *part) {
     return done;
 }
 
-/* Whether a list or map of so many parts has them in more lists and maps than a block may have. */
+/* True if a list or map of this many parts has them in more lists and maps than a block may have.
+ */
 static bool is_too_deep(const Writer *writer, Py_ssize_t count) {
     return writer->level == MOST_LEVELS - 1 && count > 0;
 }
@@ -508,7 +509,7 @@ static int add_list(Writer *writer, PyObject *list) {
     return 0;
 }
 
-/* Holds the entries of a map, in its own order. Those held count also where an error is raised. */
+/* Holds the entries of a map, in its own order. Those held count even if an error is raised. */
 static int hold_entries(Writer *writer, PyObject *map, Py_ssize_t *held) {
     PyObject *key, *value;
     Py_ssize_t at = 0;
@@ -554,13 +555,13 @@ static int add_map(Writer *writer, PyObject *map) {
     return done;
 }
 
-/* Adds a CID of another library, where it is one. */
+/* Adds a CID of another library, if it is one. */
 static int add_foreign_cid(Writer *writer, PyObject *given) {
     PyObject *bytes = PyObject_Bytes(given);
     int done = -1;
     if (!bytes) return -1;
     if (!are_cid(bytes_of(bytes), length_of(bytes)))
-        refuse_value(writer, "InvalidCid", "its bytes are no CID", given);
+        refuse_value(writer, "InvalidCid", "its bytes are not a CID", given);
     else done = add_bytes(writer, DAGCBOR_LINK, bytes);
     Py_DECREF(bytes);
     return done;
@@ -629,7 +630,7 @@ static PyObject *dumps(PyObject *module, PyObject *const *args, Py_ssize_t count
 
 typedef PyObject *Call(State *state, PyObject *block);
 
-/* What the call answers of a `bytes` with what is given. */
+/* What the call returns for a `bytes` and the other arguments. */
 static PyObject *of_bytes(PyObject *module, PyObject *given, Call *call) {
     PyObject *bytes = to_bytes(given);
     PyObject *answer = bytes ? call(PyModule_GetState(module), bytes) : NULL;
@@ -707,7 +708,7 @@ static PyObject *follow(PyObject *module, PyObject *args) {
     return answer;
 }
 
-/* The bytes of the part of a block's item to which a segment leads; None where it leads nowhere. */
+/* The bytes of the part of a block's item to which a segment leads; None if it leads nowhere. */
 static PyObject *part(PyObject *module, PyObject *args) {
     PyObject *segment, *answer = NULL;
     const char *text;
@@ -736,7 +737,7 @@ PyObject *unpack(State *state, const uint8_t *packed, size_t length) {
     return found;
 }
 
-/* Whether each byte of a length has a CID of so many bytes behind it. */
+/* True if each byte of a length has a CID of that many bytes after it. */
 static bool are_packed(const uint8_t *packed, size_t length) {
     size_t at = 0;
     while (at < length && packed[at] < length - at && are_cid(packed + at + 1, packed[at]))

@@ -1,5 +1,5 @@
-/* What takes memory, for Python, by the limited API: an extension of its own, since its library takes memory
-   and the other does not. */
+/* What takes memory, for Python, by the limited API. It is an extension of its own, because its
+   library takes memory and the other does not. */
 #define Py_LIMITED_API 0x030B0000
 #define PY_SSIZE_T_CLEAN
 #include <Python.h>
@@ -8,7 +8,7 @@
 #include "asking.h"
 #include "heap.c"
 
-/* What the call answers: its number, the bytes, and the place. The interpreter's lock is let go. */
+/* What the call returns: its number, the bytes, and the place. The interpreter's lock is let go. */
 static PyObject *answer_to(Question *it, Call *call) {
     PyObject *answer = NULL;
     Py_BEGIN_ALLOW_THREADS
@@ -22,7 +22,7 @@ static PyObject *answer_to(Question *it, Call *call) {
     return answer;
 }
 
-/* Whether it is a `bytes`, which is lent. */
+/* Checks that it is a `bytes`, which is lent. */
 static bool takes(PyObject *given, Lent *lent) {
     if (!PyBytes_Check(given)) return PyErr_SetString(PyExc_TypeError, "bytes are wanted"), false;
     *lent = (Lent){(const uint8_t *)PyBytes_AsString(given), (size_t)PyBytes_Size(given)};
@@ -34,10 +34,10 @@ static PyObject *answer_of(PyObject *bytes, Call *call) {
     return takes(bytes, &it.bytes) ? answer_to(&it, call) : NULL;
 }
 
-/* repository(file): 0, and the block that tells of the repository; or 1, and the line that tells why the
-   file is none. commit(file): the same of the commit alone that the first root names. to_json(block): the
-   number of its kind, and the text; or that of the refusal. from_json(text): the number of the kind, and
-   the block; or that of the refusal, and the place. */
+/* repository(file): 0, and the block that tells of the repository; or 1, and the line that tells
+   why the file is not one. commit(file): the same for only the commit that the first root names.
+   to_json(block): the number of its kind, and the text; or that of the refusal. from_json(text):
+   the number of the kind, and the block; or that of the refusal, and the place. */
 #define OF_BYTES(name, call)                                   \
     static PyObject *name(PyObject *module, PyObject *bytes) { \
         (void)module;                                          \
@@ -59,8 +59,8 @@ static PyObject *proof_of_record(PyObject *module, PyObject *args) {
     return takes(file, &it.bytes) && takes(key, &it.key) ? answer_to(&it, proof_of) : NULL;
 }
 
-/* event_frame(bytes, start): of the frame that stands there the number of its kind, or of why there is none;
-   and where its body begins, and where it ends. */
+/* event_frame(bytes, start): for the frame that stands there the number of its kind, or of why
+   there is none; and where its body begins, and where it ends. */
 static PyObject *event_frame(PyObject *module, PyObject *args) {
     (void)module;
     PyObject *held;

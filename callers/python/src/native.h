@@ -24,7 +24,7 @@ typedef struct {
     PyObject *bytes;
 } Cid;
 
-/* So many bytes are judged and hashed with the interpreter's lock held. */
+/* Up to this many bytes are judged and hashed with the interpreter's lock held. */
 enum { SHORT_CALL = 4096 };
 
 static inline void *no_memory(void) {
@@ -38,16 +38,16 @@ static inline const uint8_t *bytes_of(PyObject *bytes) {
 
 static inline size_t length_of(PyObject *bytes) { return (size_t)PyBytes_Size(bytes); }
 
-/* A `bytes` with what the argument holds: itself, where it is one. */
+/* A `bytes` with what the argument holds: the argument itself, if it is one. */
 PyObject *to_bytes(PyObject *given);
 
 PyObject *new_cid(PyTypeObject *type, const uint8_t *bytes, size_t length);
 
-/* The CIDs that are packed: a byte of length before each. */
+/* The packed CIDs: a byte of length before each. */
 PyObject *unpack(State *state, const uint8_t *packed, size_t length);
 
-/* An error of the type. Of the words and the place the references are taken; where one is NULL its own
- * error stands, and no other is made. */
+/* An error of the type. It takes the references to the words and the place. If one is NULL, the
+ * error that is raised already stays, and no other is made. */
 PyObject *new_error(PyObject *type, PyObject *said, const char *kind, PyObject *place);
 
 /* Raises it, and lets it go. */

@@ -1,4 +1,4 @@
-/* A block as it is written, which dagcbor_check is to say whether it is one. */
+/* A block as it is written: dagcbor_check then says if it is one. */
 #ifndef DAGCBOR_WRITER_H
 #define DAGCBOR_WRITER_H
 
@@ -7,7 +7,7 @@
 /* Of lists and maps in each other, in any block. */
 enum { MOST_LEVELS = 128 };
 
-/* Bytes one behind the other, the first of them in the room itself. */
+/* Bytes one after the other, the first of them in the room itself. */
 typedef struct {
     char *start;
     size_t used, size;
@@ -27,7 +27,7 @@ static inline void room_free(Room *room) {
     if (room->start != room->first.bytes) PyMem_Free(room->start);
 }
 
-/* Takes so many bytes more; NULL where there is no memory. What was taken before may move. */
+/* Takes this many bytes more; NULL if out of memory. What was taken before may move. */
 static inline void *room_take(Room *room, size_t count) {
     if (count > room->size - room->used) {
         bool is_first = room->start == room->first.bytes;
@@ -43,7 +43,7 @@ static inline void *room_take(Room *room, size_t count) {
     return room->start + room->used - count;
 }
 
-/* Adds bytes. False where there is no memory. */
+/* Adds bytes. False if out of memory. */
 static inline bool put_bytes(Room *room, const void *bytes, size_t length) {
     char *at = room_take(room, length);
     if (at && length) memcpy(at, bytes, length);

@@ -42,7 +42,7 @@ NO_DATA = (1.5, 2**64, -(2**64) - 1, "\ud800", {1: 2}, object(), {"a": CID}, {""
 
 
 def told(call, *given):
-    """What it answers, alone in a list; else how it refuses."""
+    """Returns what it answers, alone in a list; else how it refuses."""
     try:
         return [call(*given)]
     except DagCborError as error:
@@ -81,7 +81,7 @@ def spoiled(rng, value):
 
 
 def at_path(value, path):
-    """The data to which segments lead, alone in a list; else none."""
+    """The data to which segments lead, alone in a list; else an empty list."""
     for segment in path:
         if isinstance(value, dict) and segment in value:
             value = value[segment]
@@ -113,7 +113,7 @@ def objects(rng, value):
 
 
 def bytes_of_any_sort(rng, given):
-    """Blocks, and what is none: the calls agree."""
+    """Blocks, and bytes that are not blocks: the calls agree."""
     found = told(loads, given)
     if isinstance(found, list):
         assert check(given) and dumps(*found) == given and links(given) == links_in(*found)

@@ -137,7 +137,7 @@ def answer(call, given, first, last):
 failed = 0
 for call, given, wanted in CALLS:
     for ends in (1, 0):  # one allocation, or all from there on
-        # To the first that is not reached, and some behind it: those of big calls one in a few.
+        # Up to the first that is not reached, and some after it: for big calls one in a few.
         first, unreached = 0, 0
         while unreached < 3:
             found = answer(call, given, first, first + 1 if ends else 0)

@@ -43,7 +43,7 @@ class Dripping(io.RawIOBase):
 
 
 class Large:
-    """A file that is asked, and is none of io's."""
+    """A file that is asked, and is not one of io's."""
 
     def __init__(self, pieces):
         self.pieces = iter(pieces)
@@ -348,7 +348,7 @@ def test_no_header(bytes_, kind, said):
 
 
 def test_names_within_names():
-    """By the identity, as deep as they go."""
+    """Names by the identity hash, as deep as they go."""
     inner = b"\x81" + b"\xd8\x2a\x58\x25\0" + cid(b"\x61a")
     file = header(cid(inner, code=0)) + section(NUMBERS)
     assert [bytes(it) for it in check_car(file).missing] == [cid(b"\x61a")]
@@ -402,7 +402,7 @@ def test_a_file_that_fails():
 
 @pytest.mark.parametrize("size", [len(PLAIN), len(PLAIN) - 1])
 def test_nothing_behind_is_read(size):
-    """Of version 2, behind the file of version 1, which here may end inside a section."""
+    """In version 2, after the file of version 1, which here may end inside a section."""
     class Ending(Large):
         def read(self, count):
             piece = super().read(count)

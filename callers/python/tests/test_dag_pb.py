@@ -11,7 +11,7 @@ HASH = bytes.fromhex("0155000161")
 
 
 def node_of(links, data):
-    """The dict that `loads` is to give, or none."""
+    """The dict that `loads` has to give, or None."""
     model = dagpb.model(links, data)
     if model is None:
         return None

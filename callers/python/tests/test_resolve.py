@@ -61,7 +61,7 @@ def test_its_segments(path):
 
 
 def test_segments_over_links():
-    """Keys that no text reaches, before a link and behind it."""
+    """Keys that no text reaches, before a link and after it."""
     held = {"": {"/": "found"}, "c/d": [name(dumps(LEAF))]}
     root = {"a/b": [name(dumps(held))], "": name(dumps(LEAF))}
     blocks = BLOCKS | {name(dumps(it)): dumps(it) for it in (held, root)}
@@ -136,7 +136,7 @@ def test_other_arguments():
 
 @pytest.mark.parametrize("path", ["a", ["a"]])
 def test_bytes_that_are_written_meanwhile(path):
-    """What is verified is what is read, where another thread writes the buffer behind the verdict."""
+    """What is verified is what is read, even if another thread writes the buffer after the verdict."""
     good, evil = dumps({"a": "good"}), dumps({"a": "evil"})
     held = bytearray(good)
 

@@ -13,7 +13,7 @@ KINDS = ["null", "bool", "integer", "string", "bytes", "list", "map", "link"]
 
 
 def told(call, block):
-    """What it answers, or the name of the refusal."""
+    """Returns what it answers, or the name of the refusal."""
     try:
         return call(block)
     except DagCborError as refusal:
@@ -46,7 +46,7 @@ def test_vectors():
             else:
                 assert told(loads, it) == wanted, vector["id"]
                 assert place_told(loads, it) == place_told(check, it) == vector["at"], vector["id"]
-                # What is behind the first item is not looked at for its links.
+                # What comes after the first item is not looked at for its links.
                 of_item = links(block[: vector["at"]]) if wanted == "TrailingData" else wanted
                 assert told(links, it) == of_item, vector["id"]
     assert len(vectors) > 1000
@@ -62,7 +62,7 @@ def test_random_round():
     seed = int(os.environ.get("DAGCBOR_SEED", time.time_ns()))
     rng, end = random.Random(seed), time.monotonic() + float(os.environ.get("DAGCBOR_SECONDS", 3))
     tried = refused = 0
-    # So many at least, however slow the machine is.
+    # At least this many, however slow the machine is.
     while time.monotonic() < end or tried <= 100 or refused <= 50:
         value = random_value(rng)
         block = spelling(value)

@@ -25,7 +25,7 @@ kinds! {
     Link "a link, which is a CID",
 }
 
-/// Makes the causes of a refusal, each of a number of the library and said by these words, and the
+/// Makes the causes of a refusal, each with its number in the library and its words, and the
 /// refusal, which has a cause and a place.
 macro_rules! causes {
     (
@@ -101,19 +101,19 @@ macro_rules! causes {
 }
 
 causes! {
-    /// Why bytes, or what a tape tells, are no block, or why bytes or a text are no CID.
+    /// Why bytes, or what a tape tells, are not a block, or why bytes or a text are not a CID.
     enum Refusal {
         -1 Msg "a link holds no CID",
         -3 Eof "the bytes end too early",
-        -4 Mismatch "a key that is no text, or another tag than that of a link",
+        -4 Mismatch "a key that is not a text, or another tag than that of a link",
         -5 Unsupported "a float or another simple value, a link without a byte string, or a reserved width",
         -8 RequireUtf8 "a text that is not UTF-8",
-        -12 DepthOverflow "lists and maps are in each other too deep",
+        -12 DepthOverflow "lists and maps are nested too deep",
         -14 TrailingData "bytes after the item",
         -15 IndefiniteSize "an indefinite length or a break",
         -16 NonMinimal "a number or a length in more bytes than it needs",
         -17 UnorderedKey "a key that does not come after the one before it",
-        -20 NoToken "a token that is none",
+        -20 NoToken "an invalid token",
         -26 InvalidCid "the bytes are no CID",
         -28 UnknownBase "the first character names no base that is read here",
         -29 TooLong "the text is longer than that of any CID",
@@ -127,33 +127,33 @@ causes! {
             needed: usize,
         } "no room"
     }
-    /// Why bytes are no block, and where.
+    /// Why bytes are not a block, and where.
     struct Refused {
-        /// The offset of the byte with which the refusal comes, or how many there are, where they
+        /// The offset of the byte with which the refusal comes, or the number of bytes, if they
         /// end too early.
         place: usize
     }
 }
 
 causes! {
-    /// Why bytes are no CAR file.
+    /// Why bytes are not a CAR file.
     enum CarRefusal {
         -24 Truncated "the file is cut short",
         -25 InvalidLength "a length is not in shortest form or too large",
         -26 InvalidCid "no name stands before a block",
         -27 OtherHeader "the header is not that of version 1",
-        -35 InvalidOffset "the offsets of version 2 are none",
+        -35 InvalidOffset "the offsets of version 2 are invalid",
         NoBlock(Refusal) "the header is no block"
     }
-    /// Why bytes are no CAR file, and where.
+    /// Why bytes are not a CAR file, and where.
     struct CarRefused {
-        /// the offset in the file of the header or the section that is none
+        /// the offset in the file of the header or the section that is at fault
         place: u64
     }
 }
 
 causes! {
-    /// Why bytes are no block of DAG-PB, or have no data model, or why data is not written as one.
+    /// Why bytes are not a block of DAG-PB, or have no data model, or why data is not written as one.
     enum NodeRefusal {
         -53 Truncated "a field of the node is cut short",
         -54 InvalidVarint "a number of the node is too large",
@@ -163,11 +163,11 @@ causes! {
         -58 NameNotText "the name of a link is not UTF-8",
         -59 NotANode "the data is not that of a DAG-PB node",
         -60 UnsortedLinks "the links are not sorted by their names",
-        NoBlock(Refusal) "the data is no block, or there is no room"
+        NoBlock(Refusal) "the data is not a block, or there is no room"
     }
-    /// Why bytes are no block of DAG-PB, and where.
+    /// Why bytes are not a block of DAG-PB, and where.
     struct NodeRefused {
-        /// The offset of the fault; 0 of a name that is not UTF-8.
+        /// The offset of the fault; 0 for a name that is not UTF-8.
         place: usize
     }
 }
@@ -181,7 +181,7 @@ impl fmt::Display for NodeRefusal {
     }
 }
 
-/// What a number of the library says of a node, at this place, where what is put needs so much room.
+/// What a number of the library says of a node, at this place, if what is put needs this much room.
 pub(crate) fn node_answer(code: i32, needed: usize, place: usize) -> Result<(), NodeRefused> {
     match NodeRefusal::of_code(code) {
         Some(refusal) => Err(refusal.at(place)),
@@ -208,10 +208,10 @@ impl fmt::Display for CarRefusal {
     }
 }
 
-/// Where there is no room for what the library would put.
+/// The refusal if there is no room for what the library would put.
 pub(crate) const NO_ROOM: i32 = -21;
 
-/// What a number of the library says, where the room that it asked for is this.
+/// What a number of the library says, if it asked for this much room.
 pub(crate) fn answer_of(code: i32, needed: usize) -> Result<Kind, Refusal> {
     match (
         usize::try_from(code).map(|it| KINDS.get(it)),

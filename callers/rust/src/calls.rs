@@ -8,9 +8,9 @@ use core::ops::Range;
 #[cfg(feature = "alloc")]
 use {crate::Item, alloc::vec, alloc::vec::Vec};
 
-/// Declares functions of the library, and a call of each, which takes a walk where it is one of a
+/// Declares functions of the library, and a call of each, which takes a walk if it is one of a
 /// walk, slices to read, at most one slice as room, at most one number, and places of numbers.
-/// `include/dagcbor.h` says what each answers.
+/// `include/dagcbor.h` says what each returns.
 macro_rules! calls {
     ($($name:ident($(&$walk:ident,)? $($bytes:ident: $item:ty),*;
         $($room:ident: $entry:ty)? $(= $how:ident)?; $($put:ident: $number:ty),*)
@@ -39,7 +39,7 @@ macro_rules! calls {
                 $($put: &mut $number,)*
             ) $(-> $answer)? {
                 // SAFETY: what goes in are slices and references. So pointers are not null, also
-                // those of empty slices, and aligned; so many elements stand there; nobody writes
+                // those of empty slices, and aligned; as many elements stand there; nobody writes
                 // shared ones, nobody else uses a unique one, and no two of these overlap. A slice
                 // has fewer than 2^63 bytes, and tokens are fewer than 2^58: an address has no
                 // more than 57 bits, and a token 24 bytes.
@@ -78,14 +78,14 @@ calls! {
 /// The greatest length of the binary form of a CID.
 pub const MOST_OF_CID: usize = 86;
 
-/// What is answered where a path leads nowhere.
+/// The number that says that a path leads nowhere.
 const NO_SUCH_PATH: i32 = -36;
 
-/// Room for so many is taken before they are counted.
+/// The room, in tokens, that is taken before they are counted.
 #[cfg(feature = "alloc")]
 const FEW_TOKENS: usize = 1 << 16;
 
-/// The kind of a block, exactly where the bytes are one.
+/// Returns the kind of a block, exactly if the bytes are one.
 pub fn check(block: &[u8]) -> Result<Kind, Refused> {
     answer_in(block, dagcbor_check(block))
 }
@@ -95,7 +95,7 @@ pub(crate) fn answer_in(block: &[u8], code: i32) -> Result<Kind, Refused> {
     answer_of(code, 0).map_err(|refusal| refusal.at(first_fault(block).1))
 }
 
-/// Why the bytes are no block, and where.
+/// Why the bytes are not a block, and where.
 #[cold]
 fn first_fault(block: &[u8]) -> (Result<Kind, Refusal>, usize) {
     let (mut needed, mut place) = (0, 0);
@@ -120,7 +120,7 @@ pub fn name(block: &[u8]) -> Cid {
 }
 
 /// The kind of the part of the block's item to which the segment leads, taken whole, and where it
-/// stands; none where it leads nowhere.
+/// stands; `None` if it leads nowhere.
 pub(crate) fn part_at(
     block: &[u8],
     segment: &str,
@@ -132,21 +132,21 @@ pub(crate) fn part_at(
     }
 }
 
-/// What was put into the room, where it has place for all.
+/// What was put into the room, if it has place for everything.
 fn in_room<T>(code: i32, room: &[T], needed: usize) -> Result<&[T], Refusal> {
     answer_of(code, needed)?;
     room.get(..needed).ok_or(Refusal::NoRoom { needed })
 }
 
-/// The items of a block, whose tokens are put into the room. Room for as many as the block has bytes
-/// is enough.
+/// The items of a block, whose tokens are put into the room. Room for as many tokens as the block has
+/// bytes is enough.
 pub fn tape_into<'a, 't>(block: &'a [u8], room: &'t mut [Token]) -> Result<Items<'a, 't>, Refusal> {
     let mut needed = 0;
     let code = dagcbor_tape(block, room, &mut needed);
     Ok(Items::new(block, in_room(code, room, needed)?))
 }
 
-/// The links of the first item, which are put into the room: each with a byte in front. What follows
+/// The links of the first item, which are put into the room: each with a byte before it. What follows
 /// the item is not looked at.
 pub fn links_into<'a>(block: &[u8], room: &'a mut [u8]) -> Result<Cids<'a>, Refusal> {
     let mut needed = 0;
@@ -154,8 +154,8 @@ pub fn links_into<'a>(block: &[u8], room: &'a mut [u8]) -> Result<Cids<'a>, Refu
     Ok(Cids(in_room(code, room, needed)?))
 }
 
-/// What the tokens tell, with their payloads out of the bytes, put into the room and judged: the
-/// block.
+/// Spells what the tokens tell, with their payloads from the bytes, puts it into the room and judges
+/// it: the block.
 pub fn spell_into<'a>(
     bytes: &[u8],
     tape: &[Token],
@@ -205,7 +205,7 @@ pub fn take_tape(bytes: &[u8]) -> Result<(Tape<'_>, &[u8]), Refused> {
     }
 }
 
-/// What is said of the bytes, and where; and the tokens before that place.
+/// The verdict on the bytes, and its place; and the tokens before that place.
 #[cfg(feature = "alloc")]
 fn tokens_of(block: &[u8]) -> (Result<Kind, Refusal>, Tape<'_>, usize) {
     let mut place = 0;
@@ -215,7 +215,7 @@ fn tokens_of(block: &[u8]) -> (Result<Kind, Refusal>, Tape<'_>, usize) {
     (answer_of(code, 0), Tape { block, tokens }, place)
 }
 
-/// What a call puts into room, of which it is given so much at first, and its number.
+/// What a call puts into room, which has this size at first, and the call's number.
 #[cfg(feature = "alloc")]
 pub(crate) fn filled<T: Clone + Default>(
     first: usize,
@@ -239,7 +239,7 @@ pub struct Links(pub(crate) Vec<u8>);
 
 #[cfg(feature = "alloc")]
 impl Links {
-    /// Each link, repeats kept.
+    /// Each link, with repeats.
     pub fn iter(&self) -> Cids<'_> {
         Cids(&self.0)
     }

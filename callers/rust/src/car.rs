@@ -6,23 +6,23 @@ use crate::item::Cids;
 use crate::{CarRefusal, CarRefused, Cid, Kind, Refusal};
 use core::ops::Range;
 
-/// What is said of the block of a section.
+/// The verdict on the block of a section.
 #[derive(Clone, Copy, Debug, PartialEq, Eq, Hash)]
 pub enum Verdict {
-    /// the block that is named, of this kind
+    /// the block has this name, and is of this kind
     Ok(Kind),
-    /// the bytes that are named as DAG-CBOR, which are no block of it
+    /// the bytes have this name, of DAG-CBOR, and are not a block of it
     Refused(Refusal),
     /// the digest is not that of the CID
     OtherBytes,
-    /// the bytes that are named, of another codec than DAG-CBOR
+    /// the bytes have this name, and are of another codec than DAG-CBOR
     NotRead,
     /// the CID is by another hash function than SHA-256 and the identity
     NotVerified,
 }
 
 impl Verdict {
-    /// Whether the bytes are those that the CID names.
+    /// Returns true if the bytes are those that the CID names.
     pub const fn is_verified(self) -> bool {
         !matches!(self, Verdict::OtherBytes | Verdict::NotVerified)
     }
@@ -35,7 +35,7 @@ pub struct Section<B> {
     pub cid: Cid,
     /// the bytes
     pub block: B,
-    /// what is said of them
+    /// the verdict on them
     pub verdict: Verdict,
 }
 
@@ -69,7 +69,7 @@ pub(crate) struct Walk {
     step: u32, // 0 before the header
 }
 
-/// What a walk comes to. Places are counted from the bytes that it was given.
+/// What a walk comes to. Places are counted from the bytes that it gets.
 pub(crate) enum Part {
     /// more bytes are needed, from the place of the walk on
     More,
@@ -115,7 +115,7 @@ impl Walk {
     }
 }
 
-/// What is said of a block under a name, as of a section of a CAR file.
+/// Returns the verdict on a block under a name, as on a section of a CAR file.
 ///
 /// ```
 /// use dagcbor::{name, verify, Kind, Verdict};
@@ -174,7 +174,7 @@ impl<'a> Car<'a> {
         Ok((rest, self.walk.next(rest, true)?))
     }
 
-    /// The roots, which are put into the room: each with a byte in front. Room for as many bytes as
+    /// The roots, which are put into the room: each with a byte before it. Room for as many bytes as
     /// the header has is enough.
     pub fn roots_into<'r>(&self, room: &'r mut [u8]) -> Result<Cids<'r>, Refusal> {
         links_into(self.header, room)

@@ -28,14 +28,14 @@ impl Cid {
         Cid::hold(bytes).expect("a CID has at most 86 bytes")
     }
 
-    /// Bytes that may be a CID, which is not looked at: none where they are too many.
+    /// Bytes that may be a CID, which nothing checks: `None` if there are too many.
     pub(crate) fn hold(held: &[u8]) -> Option<Cid> {
         let (mut bytes, length) = ([0; MOST_OF_CID], held.len() as u8);
         bytes.get_mut(..held.len())?.copy_from_slice(held);
         Some(Cid { bytes, length })
     }
 
-    /// That of version 1, of a codec, and a digest of at most 64 bytes by a hash function.
+    /// Makes a CID of version 1, from a codec, and a digest of at most 64 bytes by a hash function.
     pub fn new_v1(codec: u64, hash_code: u64, digest: &[u8]) -> Result<Cid, Refusal> {
         let mut room = [0; 4 * 10 + 64];
         let mut length = 0;
@@ -90,7 +90,7 @@ impl Cid {
     }
 }
 
-/// Puts the number in front of the room, and tells how many bytes it takes.
+/// Puts the number at the front of the room, and returns how many bytes it takes.
 pub(crate) fn put_varint(mut number: u64, room: &mut [u8]) -> usize {
     let mut count = 0;
     while number >= 128 {
@@ -118,7 +118,7 @@ fn take_varint(rest: &mut &[u8]) -> u64 {
 impl TryFrom<&[u8]> for Cid {
     type Error = Refusal;
 
-    /// They are a CID where they have a text, for which there is no room.
+    /// The bytes are a CID if they have a text, for which there is no room.
     fn try_from(bytes: &[u8]) -> Result<Cid, Refusal> {
         match dagcbor_cid_text(bytes, &mut [], &mut 0) {
             NO_ROOM => Ok(Cid::held(bytes)),
@@ -127,7 +127,7 @@ impl TryFrom<&[u8]> for Cid {
     }
 }
 
-/// `Qm..` of version 0, and of version 1 after `b`, `B`, `z` or `f`.
+/// `Qm..` for version 0, and `b`, `B`, `z` or `f` first for version 1.
 impl str::FromStr for Cid {
     type Err = Refusal;
 
@@ -147,7 +147,7 @@ impl TryFrom<&str> for Cid {
     }
 }
 
-/// The text: `Qm..` of version 0, and base32 after `b` of version 1.
+/// The text: `Qm..` for version 0, and base32 after `b` for version 1.
 impl fmt::Display for Cid {
     fn fmt(&self, f: &mut fmt::Formatter<'_>) -> fmt::Result {
         let (mut room, mut needed) = ([0; MOST_OF_TEXT], 0);

@@ -10,7 +10,7 @@ pub trait Links {
     /// Why there are none.
     type LinksError;
 
-    /// The links of the first item, in its order, repeats kept.
+    /// The links of the first item, in its order, with repeats.
     fn links(bytes: &[u8]) -> Result<IntoIter<Cid>, Self::LinksError>;
 }
 
@@ -19,10 +19,10 @@ pub trait Codec<T>: Links {
     /// The number of the codec in a CID.
     const CODE: u64;
 
-    /// Why a value is not encoded, or data not decoded.
+    /// Why a value is not encoded, or data is not decoded.
     type Error;
 
-    /// The value of what a reader gives, up to its end.
+    /// Returns the value of what a reader gives, up to its end.
     fn decode<R: BufRead>(reader: R) -> Result<T, Self::Error>;
 
     /// The value of the bytes.

@@ -1,4 +1,4 @@
-//! Types out of the bytes of a block, which the library has judged before.
+//! Reads types from the bytes of a block, which the library has judged before.
 
 use crate::calls::split_item;
 use crate::ser::{Name, BYTES, INTEGER, LIST, MAP, NEGATIVE, NULL, TAG, TEXT, TRUE};
@@ -18,8 +18,8 @@ use {
 /// Those of a type's fields or variants.
 type Names = &'static [Name];
 
-/// By a newtype of this name serde's formats tell CIDs from bytes. That of the crate `cid` is the
-/// same, so its CIDs are read and written as links too.
+/// By a newtype of this name serde's formats tell CIDs from bytes. The crate `cid` has the same
+/// name, so its CIDs are read and written as links too.
 pub(crate) const CID_NAME: &str = "$__serde__private__identifier__for__cid";
 
 /// Options are in each other no deeper.
@@ -135,7 +135,7 @@ pub struct Deserializer<S> {
 }
 
 impl<'de> Deserializer<SliceReader<'de>> {
-    /// Takes those in a slice, which lends texts and bytes.
+    /// Takes the blocks in a slice, which lends texts and bytes.
     pub fn from_slice(bytes: &'de [u8]) -> Self {
         let (rest, place) = (bytes, 0);
         Deserializer {
@@ -146,7 +146,7 @@ impl<'de> Deserializer<SliceReader<'de>> {
 
 #[cfg(feature = "std")]
 impl<R: BufRead> Deserializer<IoReader<R>> {
-    /// Takes those that a reader gives. The deserializer lends texts and bytes of the last one.
+    /// Takes the blocks that a reader gives. The deserializer lends texts and bytes of the last one.
     pub fn from_reader(reader: R) -> Self {
         Deserializer {
             source: IoReader {
@@ -243,7 +243,7 @@ mod source {
         /// Where the next block begins.
         fn place(&self) -> usize;
 
-        /// Whether bytes follow.
+        /// Returns true if bytes follow.
         fn have_more(&mut self) -> Result<bool, crate::Error>;
     }
 
@@ -282,7 +282,7 @@ impl<'de> Source<'de> for &mut SliceReader<'de> {
     }
 }
 
-/// At least so many bytes of a reader are looked at, where it has them.
+/// The least number of bytes of a reader that are looked at, if it has them.
 #[cfg(feature = "std")]
 const PIECE: usize = 512;
 
@@ -300,7 +300,8 @@ pub struct IoReader<R> {
 
 #[cfg(feature = "std")]
 impl<R: BufRead> IoReader<R> {
-    /// Whether no more bytes are wanted: the block's last item ends, or what follows begins none.
+    /// Returns true if no more bytes are needed: the block's last item ends, or what follows begins no
+    /// item.
     fn is_read(&mut self) -> bool {
         while self.left > 0 {
             let mut rest = Reader::new(self.block.get(self.at..).unwrap_or_default());
@@ -359,8 +360,8 @@ impl<'de, R: BufRead> Source<'de> for &'de mut IoReader<R> {
     }
 }
 
-/// What is left of a block. That it is one is judged: here it is only seen that nothing is read
-/// after its end.
+/// What is left of a block. The library has judged it: here the code only sees to it that nothing is
+/// read after its end.
 struct Reader<'de> {
     rest: &'de [u8],
     length: usize, // of the block
@@ -417,7 +418,7 @@ impl<'de> Reader<'de> {
         Ok((first / 32, argument))
     }
 
-    /// Passes so many bytes.
+    /// Passes this many bytes.
     #[inline]
     fn bytes(&mut self, count: u64) -> Result<&'de [u8], Error> {
         if count > self.rest.len() as u64 {
@@ -433,7 +434,7 @@ impl<'de> Reader<'de> {
         str::from_utf8(self.bytes(count)?).map_err(|_| no_block())
     }
 
-    /// Whether null is next, which is passed then.
+    /// Passes null if it is next, and returns true then.
     #[inline]
     fn has_null(&mut self) -> bool {
         let found = self.rest.first() == Some(&FIRST_OF_NULL);
@@ -476,7 +477,7 @@ impl<'de> Reader<'de> {
         Err(Error::invalid_type(found, expected).or_at(place))
     }
 
-    /// The value of an item with a first byte that is wanted. Where the type refuses it, what is
+    /// The value of an item with a first byte that is wanted. If the type refuses it, what is
     /// said without a place gets the place of the item.
     #[inline(always)]
     fn visit<V: Visitor<'de>>(
@@ -726,7 +727,7 @@ impl<'de> de::SeqAccess<'de> for &mut Parts<'_, 'de> {
     }
 
     fn size_hint(&self) -> Option<usize> {
-        Some(self.left as usize) // at most so many as the block has bytes
+        Some(self.left as usize) // at most as many as the block has bytes
     }
 }
 

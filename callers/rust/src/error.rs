@@ -32,7 +32,7 @@ impl Error {
         Error(Box::new(Inner { cause, place, path }))
     }
 
-    /// Why the bytes are no block, or the value has none: none where the type or the writer
+    /// Why the bytes are not a block, or the value has none: `None` if the type or the writer
     /// objects.
     pub fn refusal(&self) -> Option<Refusal> {
         match self.0.cause {
@@ -41,29 +41,29 @@ impl Error {
         }
     }
 
-    /// Of a read: the offset of the item to which the type objects, or that of the refusal.
+    /// For a read: the offset of the item to which the type objects, or that of the refusal.
     pub fn place(&self) -> Option<usize> {
         self.0.place
     }
 
-    /// Of a write: the keys and indices that lead to what has no block.
+    /// For a write: the keys and indices that lead to what has no block.
     pub fn path(&self) -> impl Iterator<Item = &str> {
         self.0.path.iter().rev().map(String::as_str)
     }
 
-    /// With this place, where there is none.
+    /// With this place, if it has none.
     pub(crate) fn or_at(mut self, place: usize) -> Error {
         self.0.place.get_or_insert(place);
         self
     }
 
-    /// Of bytes of which so many come before.
+    /// For bytes after this many others.
     pub(crate) fn further(mut self, before: usize) -> Error {
         self.0.place = self.0.place.map(|it| before + it);
         self
     }
 
-    /// Of what is within this part.
+    /// For what is within this part.
     pub(crate) fn within(mut self, part: impl ToString) -> Error {
         self.0.path.push(part.to_string());
         self
@@ -139,7 +139,7 @@ impl serde::de::Error for Error {
         Error::new(Cause::Said(message.to_string()), None)
     }
 
-    /// A CID asks by its name whether what serde held back is of a block.
+    /// A CID asks by this name if what serde held back is from a block.
     fn missing_field(field: &'static str) -> Error {
         match field {
             CID_NAME => serde::de::Error::custom(CID_NAME),

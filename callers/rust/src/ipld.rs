@@ -26,7 +26,7 @@ pub enum Ipld {
     Null,
     /// false or true
     Bool(bool),
-    /// an integer: what is not in -2^64 .. 2^64 - 1 has no block
+    /// an integer: one that is not in -2^64 .. 2^64 - 1 has no block
     Integer(i128),
     /// a text
     String(String),
@@ -41,8 +41,8 @@ pub enum Ipld {
 }
 
 impl Ipld {
-    /// What stands at the end of a path, as of [`find`](crate::find): keys of maps and indices of
-    /// lists, with `/` between. What is empty there is no step, and none is taken by a key with a
+    /// What a path leads to, as in [`find`](crate::find): keys of maps and indices of
+    /// lists, with `/` between. What is empty there is not a step, and no step reaches a key with a
     /// `/` in it; the empty path is the data itself.
     pub fn get(&self, path: &str) -> Option<&Ipld> {
         let mut found = self;
@@ -64,11 +64,11 @@ fn index_of(step: &str) -> Option<usize> {
     is_plain.then(|| step.parse().ok())?
 }
 
-/// What the data is, where it is that; and the data of what there is.
+/// What the data is, if it is that; and the data of what there is.
 macro_rules! as_and_from {
     ($($variant:ident $method:ident $seen:ty, $it:ident => $see:expr; $($type:ty),*;)*) => {
         impl Ipld {$(
-            /// What it is, where it is one.
+            /// What it is, if it is one.
             pub fn $method(&self) -> Option<$seen> {
                 match self {
                     Ipld::$variant($it) => Some($see),
@@ -120,8 +120,8 @@ pub fn from_ipld<T: DeserializeOwned>(data: Ipld) -> Result<T, Error> {
     read(&to_vec(&data)?)
 }
 
-/// Makes an [`Ipld`], spelled as data: `null`, lists, maps, and what has a `From`. A key is what
-/// has an `Into<String>`.
+/// Makes an [`Ipld`], spelled as data: `null`, lists, maps, and what has a `From`. A key is anything
+/// that has an `Into<String>`.
 ///
 /// ```
 /// use dagcbor::{ipld, name, Ipld};
@@ -232,7 +232,7 @@ impl<'de> Visitor<'de> for OfIpld {
     }
 }
 
-/// A link; in formats for people, as JSON, the text.
+/// A link; in formats for people, such as JSON, the text.
 impl Serialize for Cid {
     fn serialize<S: Serializer>(&self, serializer: S) -> Result<S::Ok, S::Error> {
         if serializer.is_human_readable() {
@@ -282,8 +282,8 @@ impl<'de> Visitor<'de> for OfCid {
     }
 }
 
-/// Takes a CID of what is for people, a text, or of what serde held back: where that is of a block,
-/// a newtype in a newtype, and no text and no bytes.
+/// Takes a CID from a format for people, as a text, or from what serde held back: if that is from a
+/// block, a newtype in a newtype, and no text and no bytes.
 struct OfHeldCid;
 
 impl<'de> Visitor<'de> for OfHeldCid {
@@ -312,7 +312,8 @@ impl<'de> Visitor<'de> for OfHeldCid {
     }
 }
 
-/// Whether what is read with such errors is a block: of other formats they say more than the name.
+/// Returns true if what is read with such errors is a block: other formats' errors say more than the
+/// name.
 fn is_of_a_block<E: de::Error>() -> bool {
     E::missing_field(CID_NAME).to_string() == CID_NAME
 }

@@ -2,23 +2,23 @@ use crate::answer::KINDS;
 use crate::{Cid, Kind};
 use core::{slice, str};
 
-/// A head of a block as the library tells it: `include/dagcbor.h` says what the numbers are.
+/// A head of a block, as the library tells it: `include/dagcbor.h` says what the numbers are.
 #[repr(C)]
 #[derive(Clone, Copy, Debug, Default, PartialEq, Eq, Hash)]
 pub struct Token {
     /// what the token is
     pub kind: u64,
-    /// its number, or how much follows
+    /// its number, or how many bytes or items follow
     pub number: u64,
     /// where its payload stands
     pub place: u64,
 }
 
-/// The kind of a token of an integer below 0, beside the kinds of items.
+/// The kind of a token for an integer below 0, beside the kinds of items.
 #[cfg(feature = "alloc")]
 const NEGATIVE: u64 = 8;
 
-/// An item of a block, with its payload lent. What is in a list or a map follows it.
+/// An item of a block, which lends its payload. What is in a list or a map follows it.
 #[derive(Clone, Copy, Debug, PartialEq, Eq, Hash)]
 pub enum Item<'a> {
     /// null
@@ -33,9 +33,9 @@ pub enum Item<'a> {
     Text(&'a str),
     /// a byte string
     Bytes(&'a [u8]),
-    /// a list of so many items, which follow
+    /// a list of this many items, which follow
     List(u64),
-    /// a map of so many entries: of each its key, a text, and its value follow
+    /// a map of this many entries: for each, its key, a text, and its value follow
     Map(u64),
     /// a link
     Link(Cid),

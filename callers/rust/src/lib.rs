@@ -16,18 +16,18 @@
 //! ```
 //!
 //! With the feature `serde`, `from_slice` reads a type and `to_vec` writes one; `Ipld` is data
-//! without types, and `ipld` spells it. `de`, `ser` and `codec` have what is named as in the crate
-//! `serde_ipld_dagcbor`. [`Car`] goes through a CAR file in memory, [`CarReader`] through one
-//! that is read, and [`CarWriter`] writes one.
+//! without types, and `ipld` spells it. `de`, `ser` and `codec` have the same names as in the crate
+//! `serde_ipld_dagcbor`. [`Car`] reads a CAR file in memory, [`CarReader`] one
+//! that a reader gives, and [`CarWriter`] writes one.
 //!
-//! Without the feature `alloc`, which `std` brings, there are the calls that take room:
+//! Without the feature `alloc`, which `std` brings, there are only the calls that take room:
 //! [`tape_into`], [`links_into`] and [`spell_into`].
 //!
 //! A thread needs 128 KB of stack for a call, and the processor is an x86-64-v2.
 
 #![cfg_attr(not(feature = "std"), no_std)]
 #![warn(missing_docs, unsafe_op_in_unsafe_fn)]
-#![deny(unsafe_code)] // but for the calls of the library
+#![deny(unsafe_code)] // except for the calls of the library
 
 #[cfg(feature = "alloc")]
 extern crate alloc;

@@ -10,8 +10,8 @@ use {
     alloc::vec::Vec,
 };
 
-/// The links of a block of DAG-PB, whatever their names are, which are put into the room: each with a
-/// byte in front. As much room as the node has bytes is enough.
+/// Puts the links of a block of DAG-PB into the room, whatever their names are: each with a
+/// byte before it. As much room as the node has bytes is enough.
 pub fn node_links_into<'a>(node: &[u8], room: &'a mut [u8]) -> Result<Cids<'a>, NodeRefused> {
     let (mut needed, mut place) = (0, 0);
     let code = dagcbor_node_links(node, room, &mut needed, &mut place);
@@ -20,8 +20,9 @@ pub fn node_links_into<'a>(node: &[u8], room: &'a mut [u8]) -> Result<Cids<'a>, 
     room.get(..needed).map(Cids).ok_or(no_room.at(place))
 }
 
-/// The data model of a block of DAG-PB, as a block of DAG-CBOR in the room: a map of `Links` and, if the
-/// node has some, `Data`; each link a map of `Hash`, and of `Name` and `Tsize` if it has them.
+/// Puts the data model of a block of DAG-PB into the room, as a block of DAG-CBOR: a map of `Links`
+/// and, if the node has some, `Data`. Each link is a map of `Hash`, and of `Name` and `Tsize` if it
+/// has them.
 pub fn from_node_into<'a>(node: &[u8], room: &'a mut [u8]) -> Result<&'a [u8], NodeRefused> {
     let (mut needed, mut place) = (0, 0);
     let code = dagcbor_from_node(node, room, &mut needed, &mut place);
@@ -29,8 +30,8 @@ pub fn from_node_into<'a>(node: &[u8], room: &'a mut [u8]) -> Result<&'a [u8], N
     Ok(&room[..needed])
 }
 
-/// The one canonical block of DAG-PB whose data model the block of DAG-CBOR has, in the room. As much
-/// room as the block has bytes is enough.
+/// Puts the one canonical block of DAG-PB whose data model the block of DAG-CBOR has into the room. As
+/// much room as the block has bytes is enough.
 pub fn to_node_into<'a>(block: &[u8], room: &'a mut [u8]) -> Result<&'a [u8], NodeRefusal> {
     let mut needed = 0;
     let code = dagcbor_to_node(block, room, &mut needed);
@@ -38,7 +39,8 @@ pub fn to_node_into<'a>(block: &[u8], room: &'a mut [u8]) -> Result<&'a [u8], No
     Ok(&room[..needed])
 }
 
-/// The data model of a block of DAG-PB, as a block of DAG-CBOR, of which `from_slice` makes a type.
+/// Returns the data model of a block of DAG-PB, as a block of DAG-CBOR, which `from_slice` reads as a
+/// type.
 ///
 /// ```
 /// let block = dagcbor::from_node(b"\x0a\x02hi").unwrap();
@@ -66,8 +68,8 @@ pub fn node_links(node: &[u8]) -> Result<Links, NodeRefused> {
     Ok(Links(packed))
 }
 
-/// The one canonical block of DAG-PB whose data model the block of DAG-CBOR has, as `to_vec` writes it.
-/// Links that are not sorted by the bytes of their names are refused.
+/// Returns the one canonical block of DAG-PB whose data model the block of DAG-CBOR has, as `to_vec`
+/// writes it. Links that are not sorted by the bytes of their names are refused.
 #[cfg(feature = "alloc")]
 pub fn to_node(block: &[u8]) -> Result<Vec<u8>, NodeRefusal> {
     let (node, code) = filled(block.len(), |out, needed| {

@@ -9,7 +9,8 @@ use {
 
 /// A path, or a list of segments, each taken whole.
 trait Path: Copy + Default + PartialEq {
-    /// The kind and the bytes of the last item to which a front of it leads, and what is left of it.
+    /// The kind and the bytes of the last item to which a front of the path leads, and what is left of
+    /// the path.
     fn follow(self, block: &[u8]) -> Result<(Kind, &[u8], Self), Refused>;
 
     fn is_at_end(self) -> bool {
@@ -45,9 +46,9 @@ fn find_by(block: &[u8], path: impl Path) -> Result<Option<&[u8]>, Refused> {
     Ok(left.is_at_end().then_some(item))
 }
 
-/// The bytes of the item to which a path leads in a block, which are a block by themselves; none
-/// where it leads nowhere. Segments stand between slashes, and empty ones say nothing: each is a key
-/// of a map, or the index of an item of a list in decimal. A link is an item, and nothing is in it.
+/// Returns the bytes of the item to which a path leads in a block, which are a block by themselves;
+/// `None` if it leads nowhere. Segments stand between slashes, and empty ones say nothing: each is a
+/// key of a map, or the index of an item of a list in decimal. A link is an item, and nothing is in it.
 ///
 /// ```
 /// use dagcbor::find;
@@ -61,8 +62,8 @@ pub fn find<'b>(block: &'b [u8], path: &str) -> Result<Option<&'b [u8]>, Refused
     find_by(block, path)
 }
 
-/// As [`find`], of a list of segments, each taken whole: it reaches keys that are empty or have
-/// slashes too.
+/// As [`find`], for a list of segments, each taken whole: it also reaches keys that are empty or have
+/// slashes.
 ///
 /// ```
 /// use dagcbor::find_segments;
@@ -75,15 +76,15 @@ pub fn find_segments<'b>(block: &'b [u8], segments: &[&str]) -> Result<Option<&'
     find_by(block, segments)
 }
 
-/// Why a path over links came to no end.
+/// Why a path over links cannot be followed to its end.
 #[cfg(feature = "alloc")]
 #[derive(Clone, Debug, PartialEq, Eq)]
 pub enum Unresolved<E> {
-    /// what holds the blocks failed
+    /// the call that gives blocks failed
     Get(E),
     /// no block is held under the name
     Missing(Cid),
-    /// what is held under the name is no block of it
+    /// what is held under the name is not its block
     NoBlock(Cid, Verdict),
 }
 
@@ -104,9 +105,10 @@ impl<E: std::error::Error> std::error::Error for Unresolved<E> {}
 #[cfg(feature = "alloc")]
 const IDENTITY: u64 = 0;
 
-/// The bytes of the item to which the path leads from the block of the root, over links; none where it
-/// leads nowhere. `get` gives the block of a name, or none. Each block on the way is verified, so
-/// either answer holds of whoever has blocks of these names. A link at the end is the item.
+/// Returns the bytes of the item to which the path leads from the block of the root, over links;
+/// `None` if it leads nowhere. `get` gives the block of a name, or `None`. Each block on the way is
+/// verified, so either answer holds for everyone who has blocks of these names. A link at the end is
+/// the item.
 ///
 /// ```
 /// use dagcbor::{name, resolve, Cid};
@@ -129,7 +131,7 @@ pub fn resolve<B: AsRef<[u8]>, E>(
     resolve_by(get, root, path)
 }
 
-/// As [`resolve`], of a list of segments, each taken whole.
+/// As [`resolve`], for a list of segments, each taken whole.
 #[cfg(feature = "alloc")]
 pub fn resolve_segments<B: AsRef<[u8]>, E>(
     get: impl FnMut(&Cid) -> Result<Option<B>, E>,
@@ -168,7 +170,7 @@ fn resolve_by<B: AsRef<[u8]>, E>(
     }
 }
 
-/// Whether the bytes are those of the name, and of DAG-CBOR.
+/// Checks that the bytes are those of the name, and DAG-CBOR.
 #[cfg(feature = "alloc")]
 fn judge_under(cid: &Cid, block: &[u8]) -> Result<(), Verdict> {
     if name(block) == *cid {

@@ -1,4 +1,4 @@
-//! Blocks of values: bytes, which the library judges.
+//! Writes values as blocks: bytes, which the library judges.
 
 use crate::de::CID_NAME;
 use crate::{check, Cid, Error, Refusal};
@@ -8,24 +8,24 @@ use serde::ser::{self, Error as _, Serialize};
 #[cfg(feature = "std")]
 use std::io::Write;
 
-/// So many lists and maps may be around a value.
+/// The most lists and maps that may be around a value.
 const MOST_LEVELS: usize = 127;
 
-/// More entries than these are taken by the lengths of their keys at first, which is enough where
+/// More entries than these are taken by the lengths of their keys at first, which is enough if
 /// texts came in order.
 const FEW_ENTRIES: usize = 20;
 
-/// Texts of no more bytes have a head of one byte.
+/// Texts of at most this many bytes have a head of one byte.
 const SHORT: usize = 23;
 
-/// A block gets room for so many bytes at first, and the entries of maps for so many.
+/// The bytes for which a block gets room at first, and the entries for which maps do.
 const ROOM: usize = 1024;
 const ROOM_OF_ENTRIES: usize = 32;
 
 /// Room for no more entries is taken before they come.
 const MOST_ENTRIES: usize = 1 << 16;
 
-/// The block of a value. Keys of maps come in the order of blocks, whatever the value's.
+/// Returns the block of a value. Keys of maps come in the order of blocks, whatever the value's order.
 ///
 /// ```
 /// let of = dagcbor::name(b"\xf6");
@@ -52,7 +52,7 @@ pub fn to_vec<T: Serialize + ?Sized>(value: &T) -> Result<Vec<u8>, Error> {
     }
 }
 
-/// Writes the block of a value: nothing, where there is none.
+/// Writes the block of a value: nothing, if the value has none.
 #[cfg(feature = "std")]
 pub fn to_writer<W: Write, T: Serialize + ?Sized>(writer: W, value: &T) -> Result<(), Error> {
     value.serialize(&mut Serializer::new(writer))
@@ -95,7 +95,7 @@ impl<W> Serializer<W> {
 
 #[cfg(feature = "std")]
 impl<W: Write> Serializer<W> {
-    /// Puts a value that is no list and no map, and hands its block over.
+    /// Puts a value that is not a list or a map, and hands its block over.
     fn put(&mut self, put: impl FnOnce(&mut Writer) -> Result<(), Error>) -> Result<(), Error> {
         self.writer.clear();
         put(&mut self.writer)?;
@@ -253,7 +253,7 @@ fn put_again<'a>(
     Ok(())
 }
 
-/// Whether each key comes after the one before it.
+/// Returns true if each key comes after the one before it.
 #[inline]
 fn are_in_order(entries: &[Entry], block: &[u8]) -> bool {
     entries
@@ -282,7 +282,7 @@ impl Default for Writer {
 }
 
 impl Writer {
-    /// The block, exactly where it is one.
+    /// The block, exactly if it is one.
     fn judged(&self) -> Result<&[u8], Error> {
         check(&self.block).map_err(|it| it.refusal)?;
         Ok(&self.block)
@@ -336,7 +336,7 @@ impl Writer {
         Ok(())
     }
 
-    /// Whether a part may follow, in the lists and maps that are begun.
+    /// Checks that a part may follow, in the lists and maps that are begun.
     #[inline]
     fn check_level(&self) -> Result<(), Error> {
         if self.level > MOST_LEVELS {
@@ -353,7 +353,7 @@ impl Writer {
         self.put_payload(TEXT, name.as_bytes())
     }
 
-    /// Begins a list or map, of so many parts where that is known, after the name of the variant
+    /// Begins a list or map, of this many parts if that is known, after the name of the variant
     /// that it is of.
     #[inline]
     fn begin(
@@ -411,7 +411,7 @@ impl Writer {
 pub struct Parts<'a> {
     writer: &'a mut Writer,
     head: Range<usize>,
-    told: usize, // so many parts, in the head
+    told: usize, // the number of parts in the head
     count: usize,
     first: usize, // of its entries
     variant: Option<Name>,
@@ -522,8 +522,8 @@ macro_rules! of_both {
     };
 }
 
-/// The methods that put a value, which has a type of its own where it says so, and those that begin
-/// a list or a map: of what is put into a block, and of blocks that are handed over.
+/// The methods that put a value, which has a type of its own if it says so, and those that begin
+/// a list or a map: for what is put into a block, and for blocks that are handed over.
 macro_rules! serializers {
     (
         values {$(

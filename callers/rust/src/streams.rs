@@ -9,16 +9,16 @@ use std::error::Error;
 use std::fmt;
 use std::io::{self, BufRead, BufReader, ErrorKind, Read, Write};
 
-/// So much is read at once, at most.
+/// The most bytes that are read at once.
 const PIECE: usize = 1 << 16;
 
-/// Why a CAR file is not read on, or not written.
+/// Why the reading or writing of a CAR file stops.
 #[derive(Debug)]
 #[non_exhaustive]
 pub enum CarError {
     /// the reader's error, or the writer's
     Io(io::Error),
-    /// the bytes are no CAR file
+    /// the bytes are not a CAR file
     Refused(CarRefused),
     /// the bytes are not those that the CID names; they are not written
     OtherBytes,
@@ -56,8 +56,8 @@ impl From<CarRefused> for CarError {
     }
 }
 
-/// The sections of a CAR file (version 1 or 2) that is read, one after the
-/// other. At most one is in memory beside a piece of 64 KB, and nothing is reserved from a
+/// The sections of a CAR file (version 1 or 2) that a reader gives, one after the
+/// other. At most one is in memory beside a piece of 64 KB, and no memory is reserved from a
 /// length that the file announces. A refusal comes once, and nothing after it; after an error
 /// of the reader the next call goes on.
 #[derive(Debug)]
@@ -115,8 +115,8 @@ impl<R: Read> CarReader<R> {
         Ok(())
     }
 
-    /// Passes what is read and stands before the place of the walk. Whether that is reached, or
-    /// the file ends before it.
+    /// Passes what is read before the place of the walk. Returns true if that is reached, or
+    /// if the file ends before it.
     fn pass(&mut self) -> bool {
         let left = (self.bytes.len() - self.at) as u64;
         let count = left.min(self.walk.place - self.place);
@@ -161,7 +161,7 @@ impl<R: Read> Iterator for CarReader<R> {
     }
 }
 
-/// Whether bytes follow. It reads where none are at hand.
+/// Returns true if bytes follow. It reads if none are at hand.
 pub(crate) fn has_more(reader: &mut impl BufRead) -> io::Result<bool> {
     loop {
         match reader.fill_buf() {
@@ -203,7 +203,7 @@ impl<W: Write> CarWriter<W> {
         Ok(CarWriter { writer, section })
     }
 
-    /// Writes a block under its name, and says what is to be said of it. Bytes that are not
+    /// Writes a block under its name, and returns its verdict. Bytes that are not
     /// those of the CID are refused.
     pub fn write(&mut self, cid: &Cid, block: &[u8]) -> Result<Verdict, CarError> {
         let verdict = verify(cid, block);

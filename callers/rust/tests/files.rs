@@ -91,7 +91,7 @@ fn in_memory(file: &[u8]) -> [String; 3] {
     told.row()
 }
 
-/// Gives so many bytes at once, and now and then is interrupted.
+/// Gives this many bytes at once, and now and then is interrupted.
 struct Dripping<'a>(&'a [u8], usize, usize);
 
 impl Read for Dripping<'_> {

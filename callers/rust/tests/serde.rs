@@ -665,7 +665,7 @@ fn cids_of_other_crates() {
 
 #[test]
 fn nothing_is_left() {
-    /// Takes so many keys, and so many values after each.
+    /// Takes this many keys, and this many values after each.
     #[derive(Debug)]
     struct Odd<const KEYS: usize, const VALUES: usize>;
     impl<'de, const KEYS: usize, const VALUES: usize> Deserialize<'de> for Odd<KEYS, VALUES> {

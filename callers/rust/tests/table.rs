@@ -261,7 +261,7 @@ fn random_blocks_go_both_ways() {
         | 1;
     println!("seed {seed}");
     let (mut random, start, mut rounds) = (Random(seed), Instant::now(), 0);
-    // So many at least, however slow the machine is.
+    // At least this many, however slow the machine is.
     while start.elapsed() < Duration::from_secs(2) || rounds <= 100 {
         let data = random.data(5);
         let (mut block, mut items) = (Vec::new(), Vec::new());

@@ -1,4 +1,4 @@
-// What answers the library's calls: the WebAssembly module beside this file.
+// Answers the library's calls: the WebAssembly module beside this file.
 import { callsOf } from './dagcbor.js';
 import { nativeOf } from './native.js';
 
@@ -13,7 +13,7 @@ const bytesOf = async () => {
 };
 
 const bytes = await bytesOf();
-// Some Nodes have memory of 64-bit addresses, and want to be told.
+// Some Nodes have memory of 64-bit addresses only if they are told.
 if (isNode && !WebAssembly.validate(bytes)) {
   (await import('node:v8')).setFlagsFromString('--experimental-wasm-memory64');
 }

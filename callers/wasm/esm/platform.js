@@ -1,4 +1,4 @@
-// What other engines have in the place of what Node has of its own (callers/node/platform.js).
+// What other engines have in place of what Node has of its own (callers/node/platform.js).
 import { lengthOf, view } from './bytes.js';
 
 const [fromUtf8, fromPlain] = ['utf-8', 'latin1'].map((it) =>
@@ -27,8 +27,8 @@ const takes = (call) => (value) => {
 
 export const isMap = takes(sizeOf(Map));
 
-// Whether an object has more inside than properties, whatever class it says that it is of. A clone tells
-// by its class, and sooner than calls that throw, where it has no properties.
+// True if an object has more inside than properties, whatever class it says that it has. A clone
+// tells by its class, and, if it has no properties, sooner than calls that throw.
 const values = [Date, Number, String, Boolean, BigInt, Symbol].map((it) => it.prototype.valueOf);
 const INSIDES = [sizeOf(Map), sizeOf(Set), ...values].map(takes);
 const tagOf = (value) => Object.prototype.toString.call(value);
@@ -48,7 +48,7 @@ const CLASSES = [
 ];
 export const isProxy = (value) => CLASSES.some((it) => value instanceof it) && !isMap(value);
 
-// A text of one unit for each byte.
+// A text with one unit for each byte.
 const MOST = 4096; // arguments
 export const latin1 = (bytes, from = 0, to = lengthOf.call(bytes)) => {
   let text = '';

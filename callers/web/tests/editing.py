@@ -32,7 +32,7 @@ def there_and_back(page):
 
 
 def typed(page):
-    """What is typed is spelled at once, key by key; keys are put in order; what is no DAG-JSON is said by its line."""
+    """What is typed is spelled at once, key by key; keys are put in order; what is not DAG-JSON is told by its line."""
     page.give("a0")
     page.tab("Edit")
     page.wait(MADE)
@@ -49,7 +49,7 @@ def typed(page):
     same(page.text(".spelled .cid"), cid_text(named(block)))
     same(page.text(".spelled .whole").replace(" ", ""), block.hex())
     for given, said in [
-        ("[1,\n 2.5]", "Line 2: floats"), ('{"a": 1,\n\n"a": 2}', "a key stands twice"), ("[18446744073709551616]", "an integer goes"),
+        ("[1,\n 2.5]", "Line 2: floats"), ('{"a": 1,\n\n"a": 2}', "a key comes twice"), ("[18446744073709551616]", "an integer goes"),
         ('{"/": {"bytes": "?"}}', "no base64"), ("[" * 200 + "]" * 200, "DepthOverflow"), ('"\\ud800"', "surrogate"),
     ]:  # fmt: skip
         page.js(TYPE, given)

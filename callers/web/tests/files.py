@@ -58,7 +58,7 @@ def damaged(page):
 
 
 def broken_off(page):
-    """A file that breaks off behind a section, in each way, and one whose header is none."""
+    """A file that breaks off after a section, in each way, and one whose header is not one."""
     good = section(named(LEAF), LEAF)
     tails = [
         (b"\x28\x01", "Truncated"), (b"\x28", "Truncated"), (b"\x80", "Truncated"), (good[:-1], "Truncated"),
@@ -83,7 +83,7 @@ def broken_off(page):
 
 
 def headers(page):
-    """Each row of the table of headers begins a CAR file, with its roots, or is told to be none."""
+    """Each row of the table of headers begins a CAR file, with its roots, or is told not to."""
     for given, code, roots, _ in rows("headers"):
         page.give_bytes(bytes.fromhex(given.replace("-", "")), "blocks.car")
         if int(code) < 0:

@@ -70,7 +70,7 @@ def cid_text(cid):
 
 
 def some(rows):
-    """One of so many that a page is asked in a minute."""
+    """One of the many that a page is asked in a minute."""
     return rows[::20]
 
 

@@ -51,7 +51,7 @@ def before_fault(page):
 
 
 def pasted(page):
-    """Hexadecimal, base64, DAG-JSON, and what is none."""
+    """Hexadecimal, base64, DAG-JSON, and what is none of these."""
     for given, title in [("0x83 01\n02:03", "list"), ("gwECAw==", "list"), ('{"b": [], "a": null}', "map")]:
         page.give(given)
         assert page.text(".banner h2").endswith(f"A block: {title}"), given
@@ -70,7 +70,7 @@ def texts(page):
             same(page.text(".item .value"), wanted, given)
             same(page.text(".facts .cid"), cid_text(named(link(bytes.fromhex(binary)))), given)
         else:
-            assert page.text("#said").startswith("DAG-JSON. Line 1: no text of a CID: "), given
+            assert page.text("#said").startswith("DAG-JSON. Line 1: not the text of a CID: "), given
             assert "refused" not in page.text("#said") and not page.count(".banner"), given
     return f"{len(found)} texts"
 

@@ -1,26 +1,26 @@
-/* What DAG-CBOR for C has that takes memory: blocks as DAG-JSON, and back; repositories of signed records (AT Protocol):
-   what one holds, verified, or why it is none, its commit alone, and files that prove a record; and the frames in
-   which a host tells of changes, each commit verified.
+/* The calls of DAG-CBOR for C that take memory: blocks as DAG-JSON, and back; repositories of signed records (AT Protocol):
+   what one holds, verified, or why a file is not one, its commit alone, and files that prove a record; and the frames in which
+   a host tells of changes, with each commit verified.
 
-   Link with libdagcbor_memory_ffi.a, and with functions of the heap, as callers/c/heap.c has them over malloc,
-   realloc and free. It needs dagcbor.h beside it, and not the other library. A call holds what it makes of the bytes,
-   and the answer, beside them; of a repository the file's blocks and its records.
+   Link with libdagcbor_memory_ffi.a, and with functions of the heap: callers/c/heap.c has them over malloc, realloc and free.
+   It needs dagcbor.h beside it, and not the other library. A call holds what it makes of the bytes, and the answer, beside
+   them; for a repository it holds the file's blocks and its records.
 
    What a caller owes, which nothing checks:
-   - The bytes are not NULL, also where `length` is 0 (dagcbor_from); `length` bytes stand there, and nobody writes them
+   - The bytes are not NULL, even if `length` is 0 (dagcbor_from); `length` bytes stand there, and nobody writes them
      during the call, no other thread either; `length` is below 2^63.
-   - `out` likewise, also where `room` is 0 (dagcbor_into), for `room` bytes that nobody else reads or writes during the
+   - `out` likewise, even if `room` is 0 (dagcbor_into), for `room` bytes that nobody else reads or writes during the
      call; `needed` and `place` for one number each. None of these overlaps another.
    - The functions of the heap are of one allocator. They align memory as malloc does, to each power of two up to 16
-     that divides its size; they say where there is none; and several threads may call them at once, where several
+     that divides its size; they say if there is none; and several threads may call them at once, if several
      make the call.
    - No signal handler calls it, nor the child that a process with threads forked.
    - The thread has 1 MB of stack left; the CPU is an x86-64-v2.
    Calls on different threads need no lock: nothing is shared between them but the heap.
 
-   *needed becomes the length of the answer. Where that is at most `room` it is put at the front of `out`; else `out` stays
-   as it was, and DAGCBOR_NO_ROOM is answered: with *needed bytes of room the same call answers. Where memory is wanted
-   DAGCBOR_NO_MEMORY is answered; then, and after any other refusal, *needed is 0, and `out` as it was. */
+   *needed becomes the length of the answer. If that is at most `room` it is put at the front of `out`. Else `out` stays as it
+   was, and the call returns DAGCBOR_NO_ROOM: with *needed bytes of room the same call succeeds. If memory runs out the call
+   returns DAGCBOR_NO_MEMORY. Then, and after any other refusal, *needed is 0, and `out` as it was. */
 #ifndef DAGCBOR_MEMORY_H
 #define DAGCBOR_MEMORY_H
 
@@ -30,48 +30,49 @@
 extern "C" {
 #endif
 
-/* The data of a block as DAG-JSON, in one line without spaces or a line feed: UTF-8, keys in the order of their bytes,
-   bytes as {"/":{"bytes":".."}} in base64 without padding, links as {"/":".."}. The kind, from 0, exactly where the bytes
-   are a block in which no map has the key /. Else, below 0, DAGCBOR_JSON_RESERVED_KEY, since such a map would look like a
-   link or like bytes; or the refusal of dagcbor_check, and then no memory was taken. */
+/* Writes the data of a block as DAG-JSON, in one line without spaces or a line feed: UTF-8, keys in the order of their bytes,
+   bytes as {"/":{"bytes":".."}} in base64 without padding, links as {"/":".."}. Returns the kind, from 0, exactly if the bytes
+   are a block in which no map has the key /. Else it returns, below 0, DAGCBOR_JSON_RESERVED_KEY, because such a map would look
+   like a link or like bytes; or the refusal of dagcbor_check, and then no memory was taken. */
 int32_t dagcbor_to_json(const uint8_t *block, size_t length, uint8_t *out, size_t room, size_t *needed);
 
-/* The block of the data that a text is, in DAG-JSON: with spaces, escapes and keys in any order, as JSON has them; the text
-   of a CID may be any that dagcbor_cid_from_text reads. The kind, from 0, exactly where it is one; what is put is a block,
-   and *place becomes `length`. Else, below 0, the fault that stands in the text: the first from the left, but what is no
-   JSON comes first. *place becomes where it is, from 0 to `length`: of DAGCBOR_JSON_NO_TEXT the first byte that is no UTF-8;
-   of the others what it tells is only tested. Where memory is wanted *place is 0. */
+/* Writes the block of the data that a text is, in DAG-JSON: with spaces, escapes and keys in any order, as JSON has them. The
+   text of a CID may be any that dagcbor_cid_from_text reads. Returns the kind, from 0, exactly if the text is such data; what
+   is put is a block, and *place becomes `length`. Else it returns, below 0, the fault that stands in the text: the first from
+   the left, but what is not JSON comes first. *place becomes where the fault is, from 0 to `length`: for DAGCBOR_JSON_NO_TEXT
+   the first byte that is not UTF-8; what it tells for the others is only tested. If memory runs out *place is 0. */
 int32_t dagcbor_from_json(const uint8_t *text, size_t length, uint8_t *out, size_t room, size_t *needed, size_t *place);
 
 enum dagcbor_repository_answer {
     DAGCBOR_REPOSITORY = 0,   /* `out` has the block, or the file, that is asked for */
-    DAGCBOR_NO_REPOSITORY = 1 /* `out` has a line that tells why there is none */
+    DAGCBOR_NO_REPOSITORY = 1 /* `out` has a line that tells why it is not one */
 };
 
-/* Of a CAR file (version 1 or 2) with one root, whose commit and tree are whole, and each block of them the one
-   of its name: a block of DAG-CBOR, the map of
+/* Reads a CAR file (version 1 or 2) with one root, whose commit and tree are whole, and each block of them the one of its name.
+   Writes a block of DAG-CBOR, the map of
      "did", "rev"  texts
      "sig"         bytes: the signature
      "data"        a link: the root of the tree
      "prev"        a link, or null
      "signed"      bytes: what the signature is of, the block of the commit without it
      "records"     a list of lists of two, in the order of keys: a record's key, as bytes, and a link to it
-   The signature is not checked; records need not be in the file. Else one line, in ASCII, with a line feed at its end:
-   what `dagcar records` tells (docs/REPOSITORIES.md). */
+   The signature is not checked; records need not be in the file. For any other file it writes one line, in ASCII, with a line
+   feed at its end: what `dagcar records` tells (docs/REPOSITORIES.md). */
 int32_t dagcbor_repository(const uint8_t *file, size_t length, uint8_t *out, size_t room, size_t *needed);
 
-/* Of a CAR file (version 1 or 2) whose first root names a commit, the block of its name: a block of DAG-CBOR, the
-   map of
+/* Reads a CAR file (version 1 or 2) whose first root names a commit, and the block of that name. Writes a block of DAG-CBOR,
+   the map of
      "cid"         a link: the commit's name
      "did", "rev", "sig", "data", "prev", "signed"  as dagcbor_repository has them
-   No other block need be there, so that the slices serve which a frame of a stream and com.atproto.sync.getRecord carry. Else
-   one line, what `dagcar commit` tells. The number is DAGCBOR_REPOSITORY, or DAGCBOR_NO_REPOSITORY. */
+   No other block need be there, so the slices that a frame of a stream and com.atproto.sync.getRecord carry are enough. For any
+   other file it writes one line, what `dagcar commit` tells. Returns DAGCBOR_REPOSITORY, or DAGCBOR_NO_REPOSITORY. */
 int32_t dagcbor_commit(const uint8_t *file, size_t length, uint8_t *out, size_t room, size_t *needed);
 
-/* Of a CAR file whose first root names a commit, a file (CAR, version 1) that proves which record the key has, or that it
-   has none: its root is the commit, and its blocks are the commit, the nodes on the way to the key, and the record, if there
-   is one, each once. These blocks need be in the file, each the one of its name, and no others. `key` is the key itself, of
-   any bytes. Else one line, what `dagcar record-proof` tells. The number is DAGCBOR_REPOSITORY, or DAGCBOR_NO_REPOSITORY. */
+/* Reads a CAR file whose first root names a commit. Writes a file (CAR, version 1) that proves which record the key has, or
+   that it has none: its root is the commit, and its blocks are the commit, the nodes on the way to the key, and the record, if
+   there is one, each once. These blocks need be in the file, each the one of its name, and no others. `key` is the key itself,
+   of any bytes. For any other file it writes one line, what `dagcar record-proof` tells. Returns DAGCBOR_REPOSITORY, or
+   DAGCBOR_NO_REPOSITORY. */
 int32_t dagcbor_record_proof(const uint8_t *file, size_t length, const uint8_t *key, size_t key_length, uint8_t *out,
                              size_t room, size_t *needed);
 
@@ -86,14 +87,15 @@ enum dagcbor_frame_kind {
     DAGCBOR_FRAME_OTHER = 6  /* a kind of another name, whose body is any block */
 };
 
-/* The kind, from 0, exactly where a frame stands at the front of the bytes: two blocks of DAG-CBOR, a header and a body
-   that has the fields of its kind. Else, below 0, a number of dagcbor_event_answer, to DAGCBOR_FRAME_NO_BODY. Where two items
-   stand at the front by their heads, *body becomes where the second begins and *end where it ends, also where they are no
-   frame, so that the next one is found; else, of DAGCBOR_FRAME_NO_END alone, both become 0: more bytes may
-   be wanted, or a head there is none of DAG-CBOR. */
+/* Returns the kind, from 0, exactly if a frame stands at the front of the bytes: two blocks of DAG-CBOR, a header and a body
+   that has the fields of its kind. Else it returns, below 0, a number of dagcbor_event_answer, to DAGCBOR_FRAME_NO_BODY. If two
+   items stand at the front by their heads, *body becomes where the second begins and *end where it ends, even if they are not a
+   frame, so that the next one is found. Else, for DAGCBOR_FRAME_NO_END alone, both become 0: more bytes may be needed, or a
+   head there is not DAG-CBOR. */
 int32_t dagcbor_event_frame(const uint8_t *bytes, size_t length, size_t *body, size_t *end);
 
-/* Of a commit in the frame at the front of the bytes, verified: DAGCBOR_VERIFIED, and a block of DAG-CBOR, the map of
+/* Verifies the commit in the frame at the front of the bytes. Returns DAGCBOR_VERIFIED, and writes a block of DAG-CBOR, the map
+   of
      "cid"       a link: the name of the commit
      "before"    a link: the root of the tree before
      "commit"    what the block of the commit has: the map of "did" and "rev", texts, "version", 3, "data", a link to the root
@@ -101,9 +103,9 @@ int32_t dagcbor_event_frame(const uint8_t *bytes, size_t length, size_t *body, s
      "signed"    bytes: what the signature is of, the block of the commit without it
      "changes"   a list of lists of three, in the order of the operations: a record's key, as bytes, and links to the record
                  before and to the record after, or null
-   What is verified docs/REPOSITORIES.md tells. It is verified against what is known of the repository: `root`, the CID of
-   its tree, and `rev`, its revision; where root_length is 0 nothing is known. Else, below 0, a number of
-   dagcbor_event_answer. Of the three of a node the answer is its CID. */
+   docs/REPOSITORIES.md tells what is verified. It is verified against what is known of the repository: `root`, the CID of its
+   tree, and `rev`, its revision; if root_length is 0 nothing is known. Else it returns, below 0, a number of
+   dagcbor_event_answer. For the three of a node `out` has the node's CID. */
 int32_t dagcbor_verify_event(const uint8_t *bytes, size_t length, const uint8_t *root, size_t root_length,
                              const uint8_t *rev, size_t rev_length, uint8_t *out, size_t room, size_t *needed);
 

@@ -1,5 +1,5 @@
-//! Makes blocks of IPFS of the files in a folder, by Debian's crate `ipfs-unixfs`: chunks of so many bytes, nodes of so
-//! many links. It prints `<CID> <block>` in hexadecimal for each block, the root's last.
+//! Makes blocks of IPFS from the files in a folder, by Debian's crate `ipfs-unixfs`, with a given number of bytes in a
+//! chunk and of links in a node. It prints `<CID> <block>` in hexadecimal for each block, the root's last.
 
 use cid::Cid;
 use ipfs_unixfs::dir::builder::{BufferingTreeBuilder, TreeOptions};

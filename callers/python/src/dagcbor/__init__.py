@@ -3,19 +3,19 @@
     loads(block)         the data of a block: None, bool, int, str, bytes, list, dict and CID
     dumps(value)         the one block of such data
     check(block)         the kind of a block
-    find(block, path)    the data to which a path as a/0/b leads in a block; else a KeyError. A list
+    find(block, path)    the data to which a path such as a/0/b leads in a block; else a KeyError. A list
                          of segments is a path too, which reaches keys that have slashes
     links(block)         the links of the first item
     name(block)          the block's own CID
-    verify(cid, block)   whether the bytes are those that the CID names
+    verify(cid, block)   true if the bytes are those that the CID names
     to_json(block)       the data of a block as DAG-JSON
     from_json(text)      the one block of data in DAG-JSON
 
     resolve(get, cid, path)  the data to which a path leads from a block on, over links
 
     loads_first(bytes)   the data of the first item, and where it ends
-    iter_loads(bytes)    the data of the items that stand one after the other
-    load(file), dump(value, file)  the same of a binary file as `loads` and `dumps`
+    iter_loads(bytes)    the data of items, one after the other
+    load(file), dump(value, file)  the same as `loads` and `dumps`, for a binary file
 
     read_car(source)                the roots of a CAR file, and its sections in turn
     check_car(source)               its verdicts, and what is missing
@@ -33,10 +33,10 @@
 
     Store(path)          blocks in a file that lasts, by the program `dagstore`
 
-Whether bytes are a block or a CAR file is the library's judgement, which is proved. So
-is whether a file is a whole repository, or has its commit, the file that proves a record, whether the commit
-of a frame is verified, and DAG-JSON both ways. The rest, which makes objects from what the library tells
-and tells it what the objects are, is two small extensions in C, and not proved."""
+The library judges if bytes are a block or a CAR file, and is proved. It also judges if a file is a whole
+repository, or has its commit, makes the file that proves a record, judges if the commit of a frame is
+verified, and writes and reads DAG-JSON. The rest makes objects from what the library tells, and tells it
+what the objects are. It is two small extensions in C, and is not proved."""
 
 from . import atproto, dag_pb
 from ._car import CarCheck, check_car, verify, write_car

@@ -24,10 +24,10 @@ OTHER_BYTES, NOT_VERIFIED = -22, -23
 class CarCheck:
     """What was found in a CAR file.
 
-    `roots` are those of its header, `verdicts` has how often each verdict was given, and `missing`
-    are the roots and links that lead to no verified block of the file, each once, in the order of
-    their bytes. A CID by the identity holds its block itself: it is never missing, and the links in
-    that block are followed.
+    `roots` are those of its header. `verdicts` has how often each verdict was given. `missing` has
+    the roots and links that lead to no verified block of the file, each once, in the order of
+    their bytes. A CID by the identity hash holds its block itself: it is never missing, and the links
+    in that block are followed.
     """
 
     roots: list[CID] = field(repr=False)
@@ -37,20 +37,20 @@ class CarCheck:
 
     @property
     def held(self) -> list[CID]:
-        """The names of the verified blocks, each once. They are made anew at each look."""
+        """The names of the verified blocks, each once. They are made anew each time."""
         return _native.unpack(self._held)
 
     @property
     def is_well(self) -> bool:
-        """Whether nothing is missing, and each verdict is `ok ..` or `not read`."""
+        """True if nothing is missing, and each verdict is `ok ..` or `not read`."""
         are_well = all(it.startswith("ok ") or it == "not read" for it in self.verdicts)
         return are_well and not self.missing
 
 
 def check_car(source: Buffer | mmap | Readable, *, sha256: Sha256 | None = None) -> CarCheck:
-    """What is found in a CAR file, of bytes or a binary file.
+    """Returns what is found in a CAR file, from bytes or a binary file.
 
-    `sha256`, as `hashlib.sha256`, computes digests in the place of the library, and is trusted.
+    `sha256`, such as `hashlib.sha256`, computes digests in place of the library, and is trusted.
     """
     *found, error = _native.check_car(source, sha256)
     checked = CarCheck(*found)
@@ -61,7 +61,7 @@ def check_car(source: Buffer | mmap | Readable, *, sha256: Sha256 | None = None)
 
 
 def _cid_of(cid: CID | ForeignCID) -> CID:
-    """The CID, which may be one of another package, as in `dumps`."""
+    """Returns the CID, which may be one of another package, as in `dumps`."""
     if isinstance(cid, CID):
         return cid
     if isinstance(cid, (str, bytes, bytearray, memoryview)):
@@ -84,8 +84,8 @@ def write_car(
 ) -> None:
     """Writes a CAR file, of version 1, to a binary file.
 
-    `blocks` is a dict of blocks by their CIDs, or pairs of a CID and a block, in the order in which
-    they are to stand. Bytes that are not those of their CID are refused before they are written.
+    `blocks` is a dict of blocks by their CIDs, or pairs of a CID and a block, in the order that the
+    file is to have. Bytes that are not those of their CID are refused before they are written.
     """
     roots = [_cid_of(it) for it in roots]
     header = _native.dumps({"roots": roots, "version": 1})
@@ -99,8 +99,8 @@ def write_car(
 
 
 def verify(cid: CID | ForeignCID, block: Buffer) -> bool:
-    """Whether the bytes are those that the CID names: by SHA-256 or the identity, else it raises
-    DagCborError (`NotVerified`). `check` says whether they are a block."""
+    """Returns true if the bytes are those that the CID names, by SHA-256 or the identity. For another
+    hash function it raises DagCborError (`NotVerified`). `check` says if they are a block."""
     verdict = _native.verdict(_cid_of(cid), block)
     if verdict == "not verified":
         raise _native.refusal(NOT_VERIFIED)

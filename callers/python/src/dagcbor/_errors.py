@@ -1,5 +1,5 @@
-"""Why bytes are no block or no CAR file, why data has none, why a text is that of no CID, or no
-data."""
+"""Why bytes are not a block or a CAR file, why data has no block, why a text is not that of a CID, or
+not data."""
 
 from __future__ import annotations
 
@@ -10,11 +10,11 @@ if TYPE_CHECKING:
 
 
 class DagCborError(ValueError):
-    """Bytes that are no block, data that has none, or what is no CID.
+    """Bytes that are not a block, data that has no block, or what is not a CID.
 
-    `kind` names the reason, as the library does. `place` is None where it is not known. Of bytes it
-    is the offset of the byte with which the refusal comes, or how many there are, where they end too
-    early. Of data it is a tuple of the keys and indices that lead to what is refused.
+    `kind` names the reason, as the library does. `place` is None if it is not known. For bytes it
+    is the offset of the byte with which the refusal comes, or the number of bytes, if they end too
+    early. For data it is a tuple of the keys and indices that lead to what is refused.
     """
 
     def __init__(
@@ -38,8 +38,8 @@ class CarError(DagCborError):
     """Bytes that are not a CAR file.
 
     `kind` names the variant, as `dagcar check` does, and `place` is the offset in the file of the
-    header or the section that is none. Of `check_car`, `checked` is what was found before it; else,
-    and where the header is none, it is None.
+    header or the section that is not one. For `check_car`, `checked` is what was found before it; else,
+    or if the fault is in the header, it is None.
     """
 
     place: int

@@ -20,10 +20,10 @@ NO_END = -61
 
 
 class EventError(DagCborError):
-    """Bytes that are no frame, or a commit that is not verified.
+    """Bytes that are not a frame, or a commit that is not verified.
 
-    `kind` names why, as the library does (docs/REPOSITORIES.md). `node` is the CID of the node of the
-    tree for which it is not verified, of `MissingNode`, `OtherBytes` and `NoNode`; else None.
+    `kind` names why, as the library does (docs/REPOSITORIES.md). For `MissingNode`, `OtherBytes` and
+    `NoNode`, `node` is the CID of the tree's node that is at fault; else it is None.
     """
 
     def __init__(self, message: str, kind: str | None = None, node: CID | None = None) -> None:
@@ -39,7 +39,7 @@ class Known(NamedTuple):
 
 
 class RepoOp(NamedTuple):
-    """What is said to be done with the record of a path: `create`, `update` or `delete`."""
+    """What the host says was done with the record of a path: `create`, `update` or `delete`."""
 
     action: str
     path: str
@@ -93,7 +93,7 @@ class SyncEvent(Frame):
 
 @dataclass(frozen=True)
 class IdentityEvent(Frame):
-    """An account whose handle or key may be another."""
+    """An account whose handle or key may have changed."""
 
     seq: int
     did: str
@@ -103,7 +103,7 @@ class IdentityEvent(Frame):
 
 @dataclass(frozen=True)
 class AccountEvent(Frame):
-    """Whether the host serves the repository of an account, and why not."""
+    """Says if the host serves the repository of an account, and why not."""
 
     seq: int
     did: str
@@ -114,7 +114,7 @@ class AccountEvent(Frame):
 
 @dataclass(frozen=True)
 class InfoEvent(Frame):
-    """What the host tells of the stream."""
+    """What the host tells about the stream."""
 
     name: str
     message: str | None
@@ -150,8 +150,8 @@ class Verified:
     """A commit that its own frame proves: its operations lead to it from the root before.
 
     `commit` is its CID, `data` the root of its tree and `before` that of the tree before. `changes`
-    has the operations in their order. `sig` is the signature, which is not checked, and `signed` the
-    bytes that it is of.
+    has the operations in their order. `sig` is the signature, which is not checked, and `signed` has
+    the signed bytes.
     """
 
     did: str
@@ -171,9 +171,9 @@ class Verified:
 
 
 def read_event(data: Buffer, /) -> tuple[Event, bytes]:
-    """The frame at the front of bytes, such as a message of a stream, and the bytes after it.
+    """Returns the frame at the front of bytes, such as a message of a stream, and the bytes after it.
 
-    An EventError tells why there is none. Nothing of a commit is verified yet.
+    If there is none an EventError tells why. Nothing of a commit is verified yet.
     """
     held = to_bytes(data)
     event, end = _event_at(held, 0)
@@ -181,10 +181,10 @@ def read_event(data: Buffer, /) -> tuple[Event, bytes]:
 
 
 def read_events(source: Buffer | Readable, /) -> Iterator[Event]:
-    """The frames that stand one after the other, in bytes or a binary file.
+    """Yields the frames in bytes or a binary file, one after the other.
 
-    The first that is none raises an EventError, and ends it. Of a file the frame is in memory that is
-    read, and a piece of the file.
+    The first that is not a frame raises an EventError, and ends the iteration. For a file, the frame
+    that is read and a piece of the file are in memory.
     """
     if hasattr(source, "read"):
         file = cast("Readable", source)
@@ -193,11 +193,11 @@ def read_events(source: Buffer | Readable, /) -> Iterator[Event]:
 
 
 def verify_event(event: CommitEvent | Buffer, known: Known | None = None, /) -> Verified:
-    """What is verified of a commit, by its frame alone: an event that was read, or the frame's bytes.
+    """Verifies a commit by its frame alone: an event that was read, or the frame's bytes.
 
-    It is verified against what is known of the repository, which is `verified.known` of its last
-    commit, or of a whole one that was read `Known(repo.data, repo.rev)`. Else an EventError tells why
-    it is not. That the commit is signed by the account's key is left to the caller.
+    It is verified against what is known of the repository: `verified.known` of its last commit, or
+    `Known(repo.data, repo.rev)` of a whole repository that was read. If it is not verified an
+    EventError tells why. The caller has to check that the account's key signed the commit.
     """
     frame = event.frame if isinstance(event, Frame) else to_bytes(event)
     root, rev = (bytes(known.root), known.rev.encode(errors="surrogatepass")) if known else (b"", b"")
@@ -221,7 +221,7 @@ def _error(code: int, node: bytes = b"") -> EventError:
 
 
 def _event_at(held: bytes, start: int) -> tuple[Event, int]:
-    """The frame that stands there, and where it ends."""
+    """Returns the frame that stands there, and where it ends."""
     code, body, end = event_frame(held, start)
     if code < 0:
         raise _error(code)
@@ -229,7 +229,7 @@ def _event_at(held: bytes, start: int) -> tuple[Event, int]:
 
 
 def _events_of(held: bytes, more: Callable[[int], bytes]) -> Iterator[Event]:
-    """The frames of what is held, and of what comes after it."""
+    """Yields the frames of what is held, and of what comes after it."""
     start = 0
     while True:
         try:
@@ -246,7 +246,7 @@ def _events_of(held: bytes, more: Callable[[int], bytes]) -> Iterator[Event]:
 
 
 def _read(file: Readable, most: int) -> bytes:
-    """So many bytes of the file, or what it has."""
+    """Reads a number of bytes of the file, or as many as it has."""
     pieces, left = [], most
     while left and (piece := file.read(left)):
         pieces.append(piece)

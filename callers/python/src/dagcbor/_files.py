@@ -16,7 +16,7 @@ class Writable(Protocol):
 
 
 def read_all(file: Readable) -> bytes:
-    """All that the file has, from where it stands."""
+    """Reads all that the file has, from its position on."""
     pieces = []
     while piece := file.read(PIECE):
         pieces.append(piece)
@@ -26,7 +26,7 @@ def read_all(file: Readable) -> bytes:
 
 
 def put(file: Writable, piece: bytes) -> None:
-    """Writes all of it: a raw file may take a part alone."""
+    """Writes all of it: a raw file may take only a part."""
     while piece:
         count = file.write(piece)
         if count is None and isinstance(file, RawIOBase):

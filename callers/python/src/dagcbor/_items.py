@@ -16,7 +16,7 @@ if TYPE_CHECKING:
 
 
 def iter_loads(items: Buffer) -> Iterator[Any]:
-    """The data of each item of the bytes, in which they stand one behind the other."""
+    """Yields the data of each item of the bytes. The items stand one after the other."""
     items, place = to_bytes(items), 0
     while place < len(items):
         value, place = loads_first(items, place)
@@ -24,10 +24,10 @@ def iter_loads(items: Buffer) -> Iterator[Any]:
 
 
 def load(file: Readable, /) -> Any:
-    """The data of the block that a binary file has, from where it stands to its end."""
+    """Returns the data of the block that a binary file has, from its position to its end."""
     return loads(read_all(file))
 
 
 def dump(value: Any, file: Writable, /, *, default: Callable[[Any], Any] | None = None) -> None:
-    """Writes the one block of the data to a binary file. Nothing is written of what is refused."""
+    """Writes the one block of the data to a binary file. If the data is refused nothing is written."""
     put(file, dumps(value, default=default))

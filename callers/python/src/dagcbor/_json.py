@@ -13,11 +13,11 @@ RESERVED_KEY = -50
 
 
 def to_json(block: Buffer, /) -> str:
-    """The data of a block as DAG-JSON.
+    """Returns the data of a block as DAG-JSON.
 
-    It is one line without spaces, keys in the order of their bytes; bytes are `{"/":{"bytes":".."}}`
-    and a CID `{"/":".."}`. A block in which a map has the key `/` is refused (`ReservedKey`): it
-    would look like one of these.
+    It is one line without spaces, with keys in the order of their bytes. Bytes are
+    `{"/":{"bytes":".."}}` and a CID is `{"/":".."}`. A block in which a map has the key `/` is refused
+    (`ReservedKey`): it would look like one of these.
     """
     code, text, _ = _native_memory.to_json(_native.to_bytes(block))
     if code < 0:
@@ -28,7 +28,7 @@ def to_json(block: Buffer, /) -> str:
 
 
 def from_json(text: str | Buffer, /) -> bytes:
-    """The one block of the data that a text of DAG-JSON is, of str or UTF-8.
+    """Returns the one block of the data that a text of DAG-JSON says. The text is a str or UTF-8.
 
     Spaces, escapes and the order of keys are free, as in JSON. `place` of an error is the offset in
     the UTF-8.

@@ -31,7 +31,7 @@ Verdict: TypeAlias = Literal[
 ]
 
 class ForeignCID(Protocol):
-    """As the CID of `multiformats`."""
+    """A CID like that of `multiformats`."""
 
     @property
     def version(self) -> Any: ...

@@ -18,7 +18,7 @@ NOT_READ, OTHER_BYTES = 9, -22
 
 
 def _follow(block: Buffer, path: str | Sequence[str]) -> tuple[Any, bool, str | Sequence[str]]:
-    """The data, whether the path leads to it or goes on at it, and the path that is left."""
+    """Returns the data, and if the path leads to it or goes on at it; and the path that is left."""
     left: str | Sequence[str]
     if isinstance(path, str):
         kind, item, left = _native.follow(block, path)
@@ -36,10 +36,10 @@ def _follow(block: Buffer, path: str | Sequence[str]) -> tuple[Any, bool, str | 
 
 
 def find(block: Buffer, path: str | Sequence[str], /) -> Any:
-    """The data to which a path leads in a block; else a KeyError.
+    """Returns the data to which a path leads in a block, or raises a KeyError.
 
-    The path is a text as `a/0/b`, or a list of segments, each taken whole, so that it reaches keys
-    that are empty or have slashes too.
+    The path is a text such as `a/0/b`, or a list of segments, each taken whole. A list also reaches
+    keys that are empty or have slashes.
     """
     value, _, left = _follow(block, path)
     if left:
@@ -48,7 +48,7 @@ def find(block: Buffer, path: str | Sequence[str], /) -> Any:
 
 
 class MissingBlock(LookupError):
-    """A block on the way is not held, so nothing is said of what the path leads to. `cid` names it."""
+    """A block on the way is not held, so it is not known what the path leads to. `cid` names the block."""
 
     def __init__(self, cid: CID) -> None:
         super().__init__(f"no block is held under {cid}")
@@ -56,7 +56,7 @@ class MissingBlock(LookupError):
 
 
 def _block_of(get: Callable[[CID], Buffer | None], cid: CID) -> bytes:
-    """The block of the name, verified, in bytes that nobody writes. A name by the identity holds it itself."""
+    """Returns the verified block of the name. Nobody writes its bytes. A name by the identity hash holds it."""
     held = cid.digest if cid.hash_code == IDENTITY else get(cid)
     if held is None:
         raise MissingBlock(cid)
@@ -72,13 +72,13 @@ def _block_of(get: Callable[[CID], Buffer | None], cid: CID) -> bytes:
 def resolve(
     get: Mapping[CID, Buffer] | Callable[[CID], Buffer | None], cid: CID, path: str | Sequence[str]
 ) -> Any:
-    """The data to which the path leads from the block of the CID, over links, as `ipfs dag get`.
+    """Returns the data to which the path leads from the block of the CID, over links, as `ipfs dag get`.
 
-    The path is a text or a list of segments, as of `find`. `get` is a mapping of blocks by their
-    CIDs, or a call that gives the block of one, or None. Each block on the way is verified, so what
-    is answered, a KeyError too, holds of whoever has blocks of these names: the KeyError says that
-    the path leads nowhere, with the name of the block in which it ends and the path that is left
-    there. A block that is not held is a MissingBlock, and bytes that are not the block of their
+    The path is a text or a list of segments, as for `find`. `get` is a mapping of blocks by their
+    CIDs, or a call that gives the block of a CID, or None. Each block on the way is verified, so the
+    answer holds for everyone who has blocks of these names. That is also so for a KeyError, which says
+    that the path leads nowhere, with the name of the block in which it ends and the path that is left
+    there. If a block is not held it raises MissingBlock, and if bytes are not the block of their
     name a DagCborError. A link at the end is the CID itself.
     """
     get = get.get if isinstance(get, Mapping) else get

@@ -36,7 +36,7 @@ class Repository:
     """A commit, and the records of its tree.
 
     `data` is the tree's root, and `prev` the commit before, as a rule None. `sig` is the signature,
-    which is not checked, and `signed` the bytes that it is of. `records` has the CID of each record
+    which is not checked, and `signed` has the signed bytes. `records` has the CID of each record
     by its key, in the order of keys; a byte of a key that is not UTF-8 is a surrogate escape.
     """
 
@@ -50,9 +50,9 @@ class Repository:
 
 
 def read_repo(source: Buffer | mmap | Readable) -> Repository:
-    """The repository that a CAR file is, of bytes or a binary file.
+    """Returns the repository that a CAR file is, from bytes or a binary file.
 
-    The commit and the whole tree are verified; records need not be in the file. Of anything else a
+    The commit and the whole tree are verified; records need not be in the file. For any other file a
     DagCborError tells why, in the words of `dagcar records`. The file is in memory meanwhile.
     """
     told = loads(_made(repository(_all_of(source))))
@@ -61,21 +61,21 @@ def read_repo(source: Buffer | mmap | Readable) -> Repository:
 
 
 def read_commit(source: Buffer | mmap | Readable) -> RepoCommit:
-    """The commit that the first root of a CAR file names, of bytes or a binary file.
+    """Returns the commit that the first root of a CAR file names, from bytes or a binary file.
 
-    The commit is verified, and no other block need be in the file: the blocks of an event serve, and
-    a file that proves a record. Of anything else a DagCborError tells why, in the words of
+    The commit is verified, and no other block need be in the file: the blocks of an event are enough,
+    and so is a file that proves a record. For any other file a DagCborError tells why, in the words of
     `dagcar commit`. The file is in memory meanwhile.
     """
     return RepoCommit(**loads(_made(commit(_all_of(source)))))
 
 
 def record_proof(source: Buffer | mmap | Readable, key: str | Buffer) -> bytes:
-    """A CAR file that proves which record the key has in a repository, or that it has none.
+    """Makes a CAR file that proves which record the key has in a repository, or that it has none.
 
     It has the commit, the nodes on the way to the key, and the record, if there is one; the source
     need have no other blocks. A key that is a str stands for its UTF-8, with surrogate escapes as
-    `read_repo` has them. Where a block is missing, or has other bytes, a DagCborError tells so, in
+    `read_repo` has them. If a block is missing, or has other bytes, a DagCborError tells so, in
     the words of `dagcar record-proof`. The source is in memory meanwhile.
     """
     named = key.encode(errors="surrogateescape") if isinstance(key, str) else to_bytes(key)
@@ -83,7 +83,7 @@ def record_proof(source: Buffer | mmap | Readable, key: str | Buffer) -> bytes:
 
 
 def _made(answer: tuple[int, bytes, int]) -> bytes:
-    """What is made, where it is; else the line is raised that tells why it is not."""
+    """Returns what is made, or raises the line that tells why nothing is."""
     code, made, _ = answer
     if code != 0:
         raise DagCborError(made.decode().rstrip("\n"))
@@ -91,6 +91,6 @@ def _made(answer: tuple[int, bytes, int]) -> bytes:
 
 
 def _all_of(source: Any) -> bytes:
-    """All that it has: of a file, from where it stands."""
+    """Returns all its bytes: those of a file from its position on."""
     is_file = hasattr(source, "read") and not isinstance(source, mmap)
     return read_all(source) if is_file else to_bytes(source)

@@ -28,8 +28,8 @@ HERE = os.path.dirname(os.path.abspath(__file__))
 
 
 class StoreError(Exception):
-    """What `dagstore` says of a call that it refuses. All that waited for a commit is undone, but
-    where the class says otherwise."""
+    """What `dagstore` says of a call that it refuses. It undoes everything that waited for a commit,
+    if the class does not say otherwise."""
 
 
 class StoreLocked(StoreError):
@@ -37,7 +37,7 @@ class StoreLocked(StoreError):
 
 
 class StoreUnreadable(StoreError):
-    """The file is no store of blocks, or of an earlier version, cannot be opened for reading and
+    """The file is not a store of blocks, or is of an earlier version, cannot be opened for reading and
     writing, or has an entry or a row that no store writes."""
 
 
@@ -50,7 +50,7 @@ class StoreDiskError(StoreError):
 
 
 class StoreMemoryError(StoreError, MemoryError):
-    """The program has no memory left."""
+    """The program is out of memory."""
 
 
 class StoreEnded(StoreError):
@@ -58,15 +58,15 @@ class StoreEnded(StoreError):
 
 
 class InvalidBlock(StoreError, ValueError):
-    """Bytes that are no block of their codec. Nothing is changed or undone."""
+    """Bytes that are not a block of their codec. Nothing is changed or undone."""
 
 
 class InvalidCar(StoreError, ValueError):
-    """Bytes that are not a CAR file, or one that has a block that is none."""
+    """Bytes that are not a CAR file, or a CAR file with a block that is not one."""
 
 
 class DamagedBlock(StoreError):
-    """What is stored under `cid` are not the bytes that it names. Nothing is changed or undone."""
+    """The bytes that are stored under `cid` are not those that it names. Nothing is changed or undone."""
 
     def __init__(self, said: str, cid: CID | None = None) -> None:
         super().__init__(said)
@@ -74,13 +74,13 @@ class DamagedBlock(StoreError):
 
 
 class Imported(NamedTuple):
-    """What a CAR file had: the roots of its header, and how many sections."""
+    """What a CAR file had: the roots of its header, and the number of sections."""
 
     roots: list[CID]
     sections: int
 
 
-# How the last line of what is said begins, which tells why.
+# How the last line of a message begins: it tells why.
 REFUSALS: tuple[tuple[str, type[StoreError]], ...] = (
     ("another process has the file open", StoreLocked),
     ("the file (is no store|is of an earlier version|cannot be opened)", StoreUnreadable),
@@ -94,7 +94,7 @@ REFUSALS: tuple[tuple[str, type[StoreError]], ...] = (
 
 
 def refusal_of(said: str) -> StoreError:
-    """The error of what the program says: its last line tells why, and those before it of what."""
+    """The error for a message of the program: its last line tells why, and the lines before it tell where."""
     lines = [it.removeprefix("dagstore: ") for it in said.splitlines()]
     text = ", ".join(lines)
     why = lines[-1] if lines else ""
@@ -107,7 +107,7 @@ def refusal_of(said: str) -> StoreError:
 
 
 def program_of(given: str | os.PathLike[str] | None) -> str:
-    """The program: the one given, that of the environment, one beside this package, or of PATH."""
+    """The program: the one given, the one of the environment, one beside this package, or one on PATH."""
     beside = os.path.join(HERE, "dagstore")
     named = os.fspath(given) if given is not None else os.environ.get("DAGSTORE")
     found = named or (beside if os.path.exists(beside) else shutil.which("dagstore"))
@@ -117,18 +117,18 @@ def program_of(given: str | os.PathLike[str] | None) -> str:
 
 
 def path_of(path: str | os.PathLike[str]) -> str:
-    """An absolute path, which can stand in a line."""
+    """Returns an absolute path that can stand in a line."""
     text = os.path.abspath(os.fspath(path))
     if "\n" in text:
         raise ValueError("a path with a line feed cannot be asked for")
-    text.encode()  # a path that is no UTF-8 cannot be either
+    text.encode()  # a path that is not UTF-8 cannot be either
     return text
 
 
 class Store:
     """Blocks under their CIDs, in a file that lasts.
 
-    `Store(path)` opens the file, or makes it where there is none, and has it alone until `close`, or
+    `Store(path)` opens the file, or makes it if there is none, and has it alone until `close`, or
     the end of `with`. `program` is the program `dagstore`; else it is that of the environment variable
     DAGSTORE, or one beside this package, or one on PATH.
 
@@ -155,7 +155,7 @@ class Store:
     # ---- one exchange
 
     def _ended(self, process: subprocess.Popen[bytes]) -> StoreError:
-        """Why the program answers no more."""
+        """Returns why the program does not answer any more."""
         self._process = None
         process.kill()
         said = process.communicate()[1].decode(errors="replace").strip()
@@ -190,7 +190,7 @@ class Store:
         return word, body
 
     def _ask(self, request: str, block: bytes = b"") -> bytes | None:
-        """The bytes of the answer, or None where there is none."""
+        """Returns the bytes of the answer, or None if there are none."""
         with self._lock:
             if self._failed:
                 raise self._failed
@@ -208,7 +208,7 @@ class Store:
                 raise
 
     def _change(self, request: str, block: bytes = b"") -> bytes | None:
-        """A change, which is committed, unless a batch commits it."""
+        """Makes a change and commits it, or leaves that to the batch."""
         with self._lock:
             answer = self._ask(request, block)
             if not self._in_batch:
@@ -222,7 +222,7 @@ class Store:
     @overload
     def get(self, cid: CID, default: T, /) -> bytes | T: ...
     def get(self, cid: CID, default: object = NO_DEFAULT, /) -> object:
-        """The block, whose bytes are those that the CID names; else the default, or a KeyError."""
+        """Returns the block, with the bytes that the CID names; else the default, or it raises a KeyError."""
         block = self._ask(f"get {text_of(cid)}")
         if block is None and default is NO_DEFAULT:
             raise KeyError(cid)
@@ -235,11 +235,11 @@ class Store:
         return self._ask(f"has {text_of(cid)}") is not None
 
     def __len__(self) -> int:
-        """How many names are listed. It takes as long as they are many."""
+        """Returns how many names are listed. The time grows with their number."""
         return int(self._ask("count") or b"0")
 
     def __iter__(self) -> Iterator[CID]:
-        """The names, in the order of their bytes. One that is put or removed meanwhile may be missed."""
+        """Yields the names, in the order of their bytes. It may miss one that is put or removed meanwhile."""
         name = self._ask("next")
         while name is not None:
             cid = CID(name.decode())
@@ -247,8 +247,8 @@ class Store:
             name = self._ask(f"next {cid}")
 
     def put(self, data: Buffer, codec: str | int = "dag-cbor") -> CID:
-        """Keeps the block, and answers its CID, of version 1 by SHA-256. The codec is `dag-cbor`,
-        `raw` or a number. A block of DAG-CBOR or DAG-PB is judged: else it is an InvalidBlock."""
+        """Keeps the block, and returns its CID, of version 1 by SHA-256. The codec is `dag-cbor`,
+        `raw` or a number. A block of DAG-CBOR or DAG-PB is judged, and may raise InvalidBlock."""
         block = to_bytes(data)
         with self._lock:
             word = "add" if self._in_batch else "put"
@@ -256,7 +256,7 @@ class Store:
         return CID((name or b"").decode())
 
     def remove(self, cid: CID) -> None:
-        """Takes out what is listed under the CID; a KeyError where nothing is."""
+        """Takes out what is listed under the CID; raises a KeyError if nothing is."""
         if self._change(f"remove {text_of(cid)}") is None:
             raise KeyError(cid)
 
@@ -267,15 +267,15 @@ class Store:
 
     @property
     def roots(self) -> list[CID]:
-        """The names that are kept as roots, in their order."""
+        """Returns the names that are kept as roots, in their order."""
         return [CID(it) for it in (self._ask("roots") or b"").decode().split()]
 
     def add_root(self, cid: CID) -> None:
-        """Keeps the name as a root, after the others, if it is none. A block need not be there."""
+        """Keeps the name as a root, after the others, if it is not one yet. A block need not be there."""
         self._change(f"add-root {text_of(cid)}")
 
     def remove_root(self, cid: CID) -> None:
-        """Takes the name out of the roots; a KeyError where it is none. The block stays."""
+        """Takes the name out of the roots; raises a KeyError if it is not one. The block stays."""
         if self._change(f"drop-root {text_of(cid)}") is None:
             raise KeyError(cid)
 
@@ -283,8 +283,8 @@ class Store:
 
     @contextlib.contextmanager
     def batch(self) -> Iterator[Store]:
-        """Changes in `with store.batch():` are committed at its end, all of them or none: none where
-        it ends by an exception, or where a call in it failed. Other threads wait."""
+        """Changes in `with store.batch():` are committed at its end, all of them or none. None are if
+        it ends by an exception, or if a call in it failed. Other threads wait."""
         with self._lock:
             if self._in_batch:
                 raise RuntimeError("a batch is open")
@@ -325,8 +325,8 @@ class Store:
         return Imported([CID(it.removeprefix("root ")) for it in roots], int(count.removeprefix("stored ")))
 
     def export_car(self, path: str | os.PathLike[str]) -> None:
-        """Makes a file of all blocks (CAR, version 1), with the roots that are kept. No file is
-        written over: one that is there is a FileExistsError."""
+        """Makes a file of all blocks (CAR, version 1), with the roots that are kept. It overwrites no
+        file: if there is one it raises FileExistsError."""
         text = path_of(path)
         if os.path.lexists(text):
             raise FileExistsError(f"there is a file {text}")
@@ -335,7 +335,7 @@ class Store:
     # ---- the end
 
     def close(self) -> None:
-        """Ends the program. What was not committed is undone. A second call does nothing."""
+        """Ends the program. What is not committed is undone. A second call does nothing."""
         with self._lock:
             process, self._process = self._process, None
             if process is not None and os.getpid() == self._pid:
@@ -359,7 +359,7 @@ def text_of(cid: CID) -> str:
 
 
 def codec_of(codec: str | int) -> str:
-    """The word of a codec."""
+    """Returns the word of a codec."""
     if isinstance(codec, str):
         if codec not in CODECS:
             raise ValueError("a codec is 'dag-cbor', 'raw' or a number")

@@ -2,14 +2,14 @@
 
     read_event(data)            the frame at the front of bytes, and the bytes after it
     read_events(source)         the frames of a file, one after the other
-    verify_event(event, known)  what is verified of a commit, by its frame alone
+    verify_event(event, known)  a commit, verified by its frame alone
     to_json(block)              the data of a block as that JSON
     from_json(text)             the one block of such JSON
 
 The JSON is JSON in which a link is `{"$link": ".."}` and bytes are `{"$bytes": ".."}` in base64, where
 DAG-JSON has the key `/`. The rules are those of the AT Protocol's data model ("JSON
-Representation"). Whether bytes are a block, and whether a commit is verified, is the library's
-judgement, which is proved. This module's own lines are not."""
+Representation"). The library judges if bytes are a block, and if a commit is verified, and it is
+proved. This module's own lines are not."""
 
 from __future__ import annotations
 
@@ -68,8 +68,8 @@ RESERVED = ("$link", "$bytes")
 
 
 def to_json(block: Buffer, /) -> str:
-    """The data of a block as JSON of the AT Protocol: one line without spaces, keys in the order of
-    the block.
+    """Returns the data of a block as JSON of the AT Protocol: one line without spaces, keys in the
+    order of the block.
 
     A block in which a map has the key `$link` or `$bytes` is refused with a ValueError: it would
     look like a link or like bytes.
@@ -78,10 +78,10 @@ def to_json(block: Buffer, /) -> str:
 
 
 def from_json(text: str | Buffer, /) -> bytes:
-    """The one block of the data that JSON of the AT Protocol says.
+    """Returns the one block of the data that JSON of the AT Protocol says.
 
-    Base64 may have its padding or not. A ValueError tells what is no such JSON: a key that stands
-    twice, `$link` or `$bytes` beside another key, or a text after it that is none. Numbers with a
+    Base64 may have its padding or not. A ValueError tells what is not such JSON: a key that comes
+    twice, `$link` or `$bytes` beside another key, or no text after one of these. Numbers with a
     fraction are refused as `dumps` refuses a float.
     """
     given = text if isinstance(text, str) else to_bytes(text).decode()
@@ -89,7 +89,7 @@ def from_json(text: str | Buffer, /) -> bytes:
 
 
 def _told(value: Any) -> Any:
-    """The value with links and bytes as their maps."""
+    """Returns the value with links and bytes as their maps."""
     if isinstance(value, CID):
         return {"$link": str(value)}
     if isinstance(value, bytes):
@@ -105,7 +105,7 @@ def _told(value: Any) -> Any:
 
 
 def _heard(pairs: list[tuple[str, Any]]) -> Any:
-    """The value that a map of these pairs says."""
+    """Returns the value that a map of these pairs says."""
     found = dict(pairs)
     if len(found) < len(pairs):
         raise ValueError("a key stands twice in a map")
@@ -120,7 +120,7 @@ def _heard(pairs: list[tuple[str, Any]]) -> Any:
 
 
 def _bytes_of(text: str) -> bytes:
-    """The bytes that the base64 says, with its padding or without."""
+    """Returns the bytes that the base64 says, with its padding or without."""
     digits = text.rstrip("=")
     try:
         found = base64.b64decode(digits + "=" * (-len(digits) % 4), validate=True)

@@ -1,11 +1,11 @@
-"""Blocks of DAG-PB, which IPFS makes of files and directories, by their data model.
+"""Blocks of DAG-PB, which IPFS makes from files and directories, by their data model.
 
     loads(block)   the data of a block: a dict of `Links` and, if the node has some, `Data`
     dumps(node)    the one canonical block of such a dict
     links(block)   the CIDs of its links
 
-The data model is that of the DAG-PB specification ("Logical format"). Whether bytes are a block of
-DAG-PB, and data is that of a node, is the library's judgement, which is proved."""
+The data model is that of the DAG-PB specification ("Logical format"). The library judges if bytes are a
+block of DAG-PB, and if data is that of a node, and it is proved."""
 
 from __future__ import annotations
 
@@ -38,10 +38,10 @@ class Node(TypedDict):
 
 
 def loads(block: Buffer, /) -> Node:
-    """The data of a block of DAG-PB.
+    """Returns the data of a block of DAG-PB.
 
     Links are in the order of the block. What is left out there is left out here: `Name`, `Tsize` and
-    `Data`. Of a refusal, `place` is the offset of the fault. A block in which a name is not UTF-8 is
+    `Data`. In a refusal, `place` is the offset of the fault. A block in which a name is not UTF-8 is
     valid, but has no such data: it is refused as `NameNotText`.
     """
     node: Node = _native.loads(_native.from_node(block))
@@ -49,15 +49,15 @@ def loads(block: Buffer, /) -> Node:
 
 
 def dumps(node: Node, /) -> bytes:
-    """The one canonical block of a node.
+    """Returns the one canonical block of a node.
 
-    Data that is not of this shape is refused as `NotANode`, and links that are not sorted by the
+    If data does not have this shape it is refused as `NotANode`, and if links are not sorted by the
     bytes of their names as `UnsortedLinks`: `sorted(links, key=lambda it: it["Name"].encode())`
-    sorts those that have names.
+    sorts links that have names.
     """
     return _native.to_node(_native.dumps(node))
 
 
 def links(block: Buffer, /) -> list[CID]:
-    """The CIDs that the links of a block lead to, in its order, whatever the names of the links are."""
+    """Returns the CIDs of a block's links, in its order, whatever the names of the links are."""
     return _native.node_links(block)

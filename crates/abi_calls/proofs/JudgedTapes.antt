@@ -5,7 +5,6 @@ use Rattle.dagcbor_core.specs.Splits.{SplitsHead}
 use Rattle.ipld_tree.specs.Cid.{IsCid}
 use Rattle.ipld_tree.specs.Tree.{Tree, null, boolean, integer, text, bytes, link}
 use Rattle.ipld_tree.specs.Spelling.{spelling, text_spelling, IsFront}
-use Rattle.dagcbor_items.specs.Places.{Follows}
 use Rattle.abi_calls.specs.TapeSplits.{SplitsKeyAfter, SplitsItem, SplitsItems, SplitsEntries}
 use Rattle.dagcbor_decode.specs.Blocks.{IsBlock}
 use Rattle.abi_calls.proofs.TapePassing.{ItemsPassed, none_passed, one_passed, all_passed, list_passed, EntriesPassed, no_entry_passed, one_entry_passed, all_entries_passed, map_passed}
@@ -13,7 +12,7 @@ use Rattle.abi_calls.specs.Told.{payload_at, null_told, boolean_told, string_tol
 use Rattle.abi_calls.specs.TapeJudging.{IsLeafTold, TellsMore, TellsBlock}
 use Rattle.abi_calls.specs.declared.tape.Token.{Token}
 use Rattle.abi_calls.proofs.Telling.{told_first}
-use Rattle.abi_calls.proofs.Spelling.{payload_long, string_is, link_is}
+use Rattle.abi_calls.proofs.Spelling.{string_is, link_is}
 
 -- ---- leaves
 
@@ -72,13 +71,6 @@ leaf_tells b tape first at old new n steps inside is some k room =
     tells_as (λ x r. x ≡ k.0 ++ r) (λ s r. SplitsItem s steps r) b tape at (at + 1) old new
     (λ s r e. (k.3.0, record { well_formed = k.3.1.well_formed; spellable = k.3.1.spellable; is = e ∙ ap (λ z. z ++ r) k.3.1.is }, omega (arith, k.3.2, some)))
     (token_tells b k.0 tape first at old new inside is k.1 (omega (arith, k.2, room)))
-
-pub key_tells : (b key : List ℕ) (tape : List Token) (first : Token) (at old new n : ℕ) (previous : Option (List ℕ)) → at < length tape → drop at tape ≡ first ∷ drop (at + 1) tape → first.kind ≡ 3 → first.number < 2 ^ 64 → IsUtf8 key → payload_at b first.place first.number ≡ Some key → Follows previous key
-    → n ≡ length (head 3 (length key) ++ key) → n + new ≡ old → TellsMore (λ s r. SplitsKeyAfter previous s key r) b tape at (at + 1) old new
-key_tells b key tape first at old new n previous inside is kind small valid found follows size room =
-    tells_as (λ x r. x ≡ text_spelling key ++ r) (λ s r. SplitsKeyAfter previous s key r) b tape at (at + 1) old new
-    (λ s r e. (record { well_formed = valid; spellable = omega (arith, small, payload_long b key first.place first.number found); is = e }, follows))
-    (token_tells b (text_spelling key) tape first at old new inside is (ap (λ k. token_bytes b k first.number first.place) kind ∙ string_is b key 3 first.place first.number found) (omega (arith, size, room)))
 
 head_tells : (b : List ℕ) (tape : List Token) (first : Token) (major at old new : ℕ) → at < length tape → drop at tape ≡ first ∷ drop (at + 1) tape → major < 8 → first.number < 2 ^ 64 → token_bytes b first.kind first.number first.place ≡ Some (head major first.number) → length (head major first.number) + new ≡ old
     → TellsMore (λ s r. SplitsHead s major first.number r) b tape at (at + 1) old new

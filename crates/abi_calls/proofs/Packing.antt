@@ -2,10 +2,10 @@
 use Rattle.std.proofs.Common.{◌≡◌, ℕ, suc, ◌≤◌, List, [], ◌∷◌, ◌++◌, length, refl, sym, ap, ◌∙◌, arith, append_assoc, append-nil, length-append}
 use Rattle.dagcbor_core.specs.Head.{head}
 use Rattle.ipld_tree.specs.Tree.{Tree, null, boolean, integer, text, bytes, list, mapping, link, Items, no_items, item, Entries, no_entries, entry, links_of, items_links, entries_links}
-use Rattle.ipld_tree.specs.Spelling.{spelling, items_spelling, entries_spelling, text_spelling, item_count, entry_count, IsFront}
+use Rattle.ipld_tree.specs.Spelling.{spelling, items_spelling, entries_spelling, text_spelling, item_count, entry_count}
 use Rattle.std.specs.List.{flat_map}
 use Rattle.dagcbor_decode.specs.Rows.{HoldsLinks}
-use Rattle.abi_calls.specs.Packed.{packed_cids, packed_links}
+use Rattle.abi_calls.specs.Packed.{packed_cids}
 
 packed_both : (links more : List (List ℕ)) → packed_cids (links ++ more) ≡ packed_cids links ++ packed_cids more
 packed_both [] more = refl
@@ -52,7 +52,3 @@ row_fits items links h = omega (arith, trees_fit h.trees, ap (λ ls. length (pac
     trees_fit : (ts : List Tree) → length (packed_cids (flat_map links_of ts)) ≤ length (flat_map spelling ts)
     trees_fit [] = omega arith
     trees_fit (t ∷ ts) = both_fit (links_of t) (flat_map links_of ts) (spelling t) (flat_map spelling ts) (links_fit t) (trees_fit ts)
-
--- packed links need no more bytes than those that their item begins
-pub packed_fits : (b rest : List ℕ) (t : Tree) → IsFront b t rest → length (packed_links t) ≤ length b
-packed_fits b rest t f = omega (arith, links_fit t, ap length f.is, length-append (spelling t) rest)

@@ -40,13 +40,6 @@ cut_item b r h =
 pub item_within : (b r : List ℕ) → EndByHeads b 1 r → length r ≤ length b
 item_within b r h = let e = ends_within b r 1 h in omega (arith, ap length e.1, length-append e.0 r)
 
-pub two_items : (b header following body rest : List ℕ) → EndByHeads b 1 following → b ≡ header ++ following → EndByHeads following 1 rest → following ≡ body ++ rest → SplitsFrame b header body rest
-two_items b header following body rest first is second more = record {
-  is = is ∙ ap (λ x. header ++ x) more;
-  first = subst (EndByHeads b 1) more first;
-  second = subst (λ x. EndByHeads x 1 rest) more second;
-}
-
 front_after : (b t_bytes rest : List ℕ) (t : Tree) → IsSpelling t_bytes t → b ≡ t_bytes ++ rest → IsFront b t rest
 front_after b t_bytes rest t h e = record { well_formed = h.well_formed; spellable = h.spellable; is = e ∙ ap (λ x. x ++ rest) h.is }
 
@@ -67,14 +60,6 @@ whole_unique shape steps b v w h k =
     cc e
 
 -- ---- refusals
-
-pub refused_as : {P Q : Type 0} → (P → Q) → (e : FrameError) → BodyRefused P e → BodyRefused Q e
-refused_as f error.OutOfMemory h = tt
-refused_as f error.NoEnd h = absurd h
-refused_as f (error.NoHeader e) h = absurd h
-refused_as f (error.OtherOperation n) h = absurd h
-refused_as f error.NoKind h = absurd h
-refused_as f (error.NoBody e) h = (f h.0, h.1)
 
 no_none : (d : Decoded Tree) → answer d ≡ Err None → ⊥
 no_none (got t rest) e = cc e
@@ -298,11 +283,6 @@ header_as header op name (error.OtherOperation n) h k = (op, name, h, k)
 pub kind_read : (header : List ℕ) (op : ℤ) (name : Option (List ℕ)) (r : Result Kind FrameError) → IsWhole frame_header_shape default_steps header (op, (name, tt)) → MatchResult r (IsKind op name) (NoKindFor op name) → MatchResult r (IsHeader header) (HeaderRefused header)
 kind_read header op name (Ok k) h m = (op, name, h, m)
 kind_read header op name (Err e) h m = header_as header op name e h m
-
--- the frame of a body that is read
-pub parts_read : (header body : List ℕ) (k : Kind) (r : Result Frame FrameError) → IsHeader header k → MatchResult r (IsBody k body) (BodyRefused (IsNoBody k body)) → MatchResult r (IsFrameOf header body) (PartsRefused header body)
-parts_read header body k (Ok f) h m = (k, h, m)
-parts_read header body k (Err e) h m = inr (k, h, m)
 
 -- ---- no frame
 

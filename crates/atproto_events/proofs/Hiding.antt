@@ -145,6 +145,3 @@ whole_rest all done top following below next is split = is ∙ ap (λ x. done ++
 
 pub first_lower : (n : ℕ) (all done : List PieceParts) (top : PieceParts) (following : List PieceParts) → AreLower n all → all ≡ done ++ (top ∷ following) → top.layer < n
 first_lower n all done top following low is = (lower_rest n done (top ∷ following) (subst (AreLower n) is low)).0
-
-pub first_fault : (n : ℕ) (ps : List PieceParts) (e : UndoError) → NodeFault ps e → FirstOrFault n ps e
-first_fault n ps e h = inl h

@@ -143,12 +143,6 @@ whole_again zero xs = refl
 whole_again (suc i) [] = refl
 whole_again (suc i) (x ∷ xs) = ap (λ t. x ∷ t) (whole_again i xs)
 
--- an entry of the key, in its layer
-made_entry : (key : List ℕ) (n : ℕ) (o : Option (List ℕ)) (cid : CidParts) → IsPlaced n o → o ≡ Some key → record { layer = n; key = o; cid = cid } ≡ entry_piece key cid
-made_entry key n o cid placed is =
-    let layer = subst (IsPlaced n) is placed in
-    λ i. record { layer = layer i; key = is i; cid = cid }
-
 -- the piece at a place, if it is an entry of the key
 pub placed_there : (key : List ℕ) (i : ℕ) (ps : List Piece) (d : Piece) → get_or ps i d ≡ d → IsOfKey key i (pieces ps) → ArePlaced (pieces ps)
     → (i < length ps) × ((d.layer ≡ key_layer key) × ((piece_of d).key ≡ Some key))

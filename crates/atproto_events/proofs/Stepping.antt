@@ -13,9 +13,6 @@ use Rattle.atproto_events.proofs.Places.{piece_at, pieces_set, pieces_removed, p
 some_other : (x : CidParts) → Some x ≢ None
 some_other x h = cc h
 
-none_other : (x : CidParts) → None ≢ Some x
-none_other x h = cc h
-
 pub some_same : (x y : CidParts) → Some x ≡ Some y → x ≡ y
 some_same x y h = cc h
 
@@ -76,17 +73,6 @@ other_record key i ps d after is k placed other = (
   λ same. other (sym same),
 )
 
--- nothing changes if there was no record and there is no record
-pub left_so : (c : Changed) (i : ℕ) (xs : List PieceParts) → EndsBefore c.0 (take i xs) → BeginsAfter c.0 (drop i xs) → c.1.1 ≡ None → c.1.0 ≡ None → StepsBack c xs xs
-left_so c i xs front rest new_is old_is = record {
-  front = take i xs;
-  rest = drop i xs;
-  was = whole_again i xs ∙ ap (λ o. take i xs ++ with_piece c.0 o (drop i xs)) (sym new_is);
-  is = whole_again i xs ∙ ap (λ o. take i xs ++ with_piece c.0 o (drop i xs)) (sym old_is);
-  between = λ none. (front, rest);
-  key = λ some none. absurd (some old_is);
-}
-
 -- it is put in
 pub put_in : (c : Changed) (i : ℕ) (ps : List Piece) (x : Piece) (old : CidParts) → i ≤ length ps → EndsBefore c.0 (take i (pieces ps)) → BeginsAfter c.0 (drop i (pieces ps))
     → c.1.1 ≡ None → c.1.0 ≡ Some old → IsKey c.0 → piece_of x ≡ entry_piece c.0 old → StepsBack c (pieces ps) (pieces (insert ps i x))
@@ -100,15 +86,6 @@ put_in c i ps x old le front rest new_is old_is key made = record {
   between = λ none. (front, rest);
   key = λ some none. key;
 }
-
--- no record is there
-pub no_record : (key : List ℕ) (i : ℕ) (xs : List PieceParts) (after : Option CidParts) → EndsBefore key (take i xs) → BeginsAfter key (drop i xs) → after ≢ None
-    → (value : Option CidParts) × HasRecord key value xs × (value ≢ after)
-no_record key i xs after front rest other = (
-  None,
-  record { front = take i xs; rest = drop i xs; is = whole_again i xs; between = λ none. (front, rest) },
-  λ same. other (sym same),
-)
 
 -- a subtree is at this place
 hides : (key : List ℕ) (m : ℕ) (xs : List PieceParts) (p : PieceParts) (ys : List PieceParts) → EndsBefore key (take m xs) → drop m xs ≡ p ∷ ys → p.key ≡ None → BeginsAfter key (from_entry ys) → HidesKey key p.cid xs
@@ -160,10 +137,6 @@ names_differ d after now is other same = other (sym (some_same now d.cid (sym is
 pub is_none : (o : Option CidParts) (b : Bool) → b ≡ false → b ≡ is_some o → o ≡ None
 is_none None b h e = refl
 is_none (Some x) b h e = absurd (cc (h, e))
-
-pub not_none : (o : Option CidParts) (b : Bool) → b ≡ true → b ≡ is_some o → o ≢ None
-not_none None b h e none = absurd (cc (h, e))
-not_none (Some x) b h e none = absurd (cc none)
 
 -- ---- the piece at a place
 

@@ -62,9 +62,6 @@ stops_here done i j d ps mid e next lt is all fault = record {
   fault = fault;
 }
 
-pub none_left : (done : List Change) (i : ℕ) (ps qs : List PieceParts) → i ≡ 0 → StepsBackAll (changes (drop i done)) ps qs → StepsBackAll (changes done) ps qs
-none_left done i ps qs none all = subst (λ k. StepsBackAll (changes (drop k done)) ps qs) none all
-
 -- ---- the root before
 
 pub root_led : (r : Result CidParts UndoError) (stored : Stored) (root : CidParts) (cs : List Changed) (ps qs : List PieceParts) → OpensTree stored root ps → StepsBackAll cs ps qs → IfOk r (NamesRoot qs)

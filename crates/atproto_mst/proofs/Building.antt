@@ -10,7 +10,7 @@ use Rattle.ipld_tree.specs.Tree.{Tree}
 use Rattle.ipld_tree.specs.Spelling.{spelling}
 use Rattle.ipld_links.specs.Names.{block_name}
 use Rattle.files_car.specs.Car.{Section}
-use Rattle.atproto_mst.specs.Trees.{Leaf, lower_run, row_tree, entry_tree, entry_trees, node_map, node_section, subtree, node, subtree_nodes, nodes, nodes_between}
+use Rattle.atproto_mst.specs.Trees.{Leaf, lower_run, entry_tree, entry_trees, node_map, node_section, subtree, node, subtree_nodes, nodes, nodes_between}
 use Rattle.atproto_mst.specs.Nodes.{tree_of_row, row_told}
 use Rattle.atproto_mst.specs.Placed.{told, all_told, upper_rest}
 use Rattle.atproto_mst.specs.Sinks.{HandsOver, HandsOverFirst, RefusesOne}
@@ -203,10 +203,6 @@ nodes_here below n at k ps top done all lt is e tops before =
     ∙ ap (λ x. below x ++ nodes_between below n (upper_rest n (all_told (drop (at + 1) ps)))) (sym (rows_lower n at k ps e))
     ∙ ap (λ x. below (all_told (take k (drop (at + 1) ps))) ++ nodes_between below n x) (sym (rows_after n at k ps e)) in
     ap (λ z. done ++ z) (sym here) ∙ before
-
-pub row_made : (s : ℕ) (previous : List ℕ) (top : Placed) (after : Option CidParts) (p : ℕ) → s ≡ p
-    → row_tree s (drop s top.key.now) top.value after ≡ row_tree p (drop p top.key.now) top.value after
-row_made s previous top after p e = ap (λ x. row_tree x (drop x top.key.now) top.value after) e
 
 pub bound_next : (at k : ℕ) (ps : List Placed) → at < length ps → k ≤ length (take (length ps - (at + 1)) (drop (at + 1) ps)) → at + (1 + k) ≤ length ps
 bound_next at k ps lt h = omega (arith, h, ap length (rest_whole (at + 1) ps), length-drop (at + 1) ps)

@@ -1,5 +1,5 @@
 -- What a walk gathers, and where it stops, part by part.
-use Rattle.std.proofs.Common.{◌≡◌, ◌≢◌, ◌⊎◌, inl, inr, ℕ, zero, suc, ◌+◌, ◌-◌, ◌<◌, ◌≤◌, Bool, true, false, ◌&&◌, add-one, get_or, length, take, drop, drop-cons, map, List, [], ◌∷◌, ◌++◌, append_assoc, append-nil, refl, sym, ap, ◌∙◌, subst, arith, Option, Some, None, Vec}
+use Rattle.std.proofs.Common.{◌≡◌, ◌⊎◌, inl, inr, ℕ, zero, suc, ◌+◌, ◌-◌, ◌<◌, ◌≤◌, Bool, true, false, ◌&&◌, add-one, get_or, length, take, drop, drop-cons, map, List, [], ◌∷◌, ◌++◌, append_assoc, append-nil, refl, sym, ap, ◌∙◌, subst, arith, Option, None, Vec}
 use Rattle.std.proofs.lemmas.List.{drop_all, length-map, length-append, take-append-le, take_all}
 use Rattle.std.specs.Prelude.{Decides}
 use Rattle.std.specs.declared.alloc.Global.{Global}
@@ -14,7 +14,7 @@ use Rattle.atproto_mst.specs.Gathering.{GathersEntries, AddsRow, key_after}
 use Rattle.atproto_mst.specs.InLayers.{IsLayerRow, IfLinked, AreRowsOf, IsOfLayer, IsEmpty, IsRightBelow}
 use Rattle.atproto_mst.specs.declared.entries.MstEntry.{MstEntry}
 use Rattle.atproto_mst.specs.declared.error.MstError.{MstError}
-use Rattle.atproto_mst.specs.declared.error.MstError.TheVariants.{OutOfMemory, OtherTree}
+use Rattle.atproto_mst.specs.declared.error.MstError.TheVariants.{OutOfMemory}
 use Rattle.types_repository.specs.declared.repository.Entry.{Entry as Row}
 use Rattle.atproto_mst.proofs.Nodes.{same_node_at}
 use Rattle.atproto_mst.proofs.Rising.{first_after, joined_after, last_joined}
@@ -41,27 +41,6 @@ gathers_none W v h = record { found = []; walked = h; following = record { keys 
 
 pub gathers_no_link : (W : CidParts → List Entry → Type 0) (l : Option CidParts) → l ≡ None → (v : Found) → GathersEntries (WalksLink W l) v v
 gathers_no_link W l h v = subst (λ x. GathersEntries (WalksLink W x) v v) (sym h) (gathers_none (WalksLink W None) v refl)
-
--- a subtree under a link has an entry
-module _ (W : CidParts → List Entry → Type 0) (l : Option CidParts) (name : CidParts) (is : l ≡ Some name) (old new : Found) (g : GathersEntries (W name) old new) where
-  added : length new.items ≡ length old.items + length g.found
-  added = omega (arith, length-map old.items entry_of, length-map new.items entry_of, ap length g.all, length-append (entries old.items) g.found)
-
-  pub gathers_link : length new.items ≢ length old.items → GathersEntries (WalksLink W l) old new
-  gathers_link more = record {
-    found = g.found;
-    walked = subst (λ x. WalksLink W x g.found) (sym is) (g.walked, λ none. more (omega (arith, added, ap length none)));
-    following = g.following;
-    all = g.all;
-  }
-
-  none_found : (es : List Entry) → length es ≡ 0 → es ≡ []
-  none_found [] h = refl
-  none_found (e ∷ es) h = absurd (omega (arith, h))
-
-  pub stops_without : (S : List ℕ → CidParts → MstError → Type 0) → length new.items ≡ length old.items → StopsAfter W S (last_entry_key [] (entries old.items)) l OtherTree
-  stops_without S same =
-      subst (λ x. StopsAfter W S (last_entry_key [] (entries old.items)) x OtherTree) (sym is) (inr (refl, subst (W name) (none_found g.found (omega (arith, added, same))) g.walked))
 
 in_row : (a : List Entry) (e : Entry) (b c : List Entry) → ((a ++ (e ∷ [])) ++ b) ++ c ≡ a ++ (e ∷ (b ++ c))
 in_row a e b c = simp append_assoc
@@ -105,9 +84,6 @@ pub record GoesOn (W : CidParts → List Entry → Type 0) (S : List ℕ → Cid
   pub stops : (e : MstError) → StopsInRows W S (last_entry_key [] (entries found.items)) key rest e → StopsInRows W S (last_entry_key [] (entries first.items)) [] all e
 
 module _ (W : CidParts → List Entry → Type 0) (S : List ℕ → CidParts → MstError → Type 0) (first : Found) (all : List NodeRow) where
-  pub goes_from_start : GoesOn W S first all first [] all
-  goes_from_start = record { walks = λ new h. h; stops = λ e h. h }
-
   module _ (old : Found) (previous : List ℕ) (r : NodeRow) (rs : List NodeRow) (go : GoesOn W S first all old previous (r ∷ rs)) where
     pub stops_at_row : (e : MstError) → RowFault previous (last_entry_key [] (entries old.items)) r e → StopsInRows W S (last_entry_key [] (entries first.items)) [] all e
     stops_at_row e h = go.stops e (inl h)
@@ -153,18 +129,12 @@ pub record SettledBy (F : CidParts → Type 0) (n : ℕ) (all : List NodeRow) (f
   pub on : AreRowsOf F n [] all → (fits ≡ true) × AreRowsOf F n key rest
   pub back : fits ≡ true → AreRowsOf F n key rest → AreRowsOf F n [] all
 
-pub settled_at_start : (F : CidParts → Type 0) (n : ℕ) (all : List NodeRow) → SettledBy F n all true [] all
-settled_at_start F n all = record { on = λ h. (refl, h); back = λ e h. h }
-
 pub settled_after_row : (F : CidParts → Type 0) (n : ℕ) (all : List NodeRow) (fits row below next : Bool) (key : List ℕ) (r : NodeRow) (rs : List NodeRow) → SettledBy F n all fits key (r ∷ rs)
     → Decides row (IsLayerRow n key r) → Decides below (IfLinked F r.after) → Decides next ((fits ≡ true) × (row ≡ true) × (below ≡ true)) → SettledBy F n all next (key_of_row key r) rs
 settled_after_row F n all fits row below next key r rs s is link step = record {
   on = λ h. (let k = s.on h in (step.1 (k.0, is.1 k.1.0, link.1 k.1.1), k.1.2));
   back = λ e h. (let k = step.0 e in s.back k.0 (is.0 k.1, link.0 k.2, h));
 }
-
-pub settled_at_end : (F : CidParts → Type 0) (n : ℕ) (all : List NodeRow) (fits : Bool) (key : List ℕ) → SettledBy F n all fits key [] → Decides fits (AreRowsOf F n [] all)
-settled_at_end F n all fits key s = (λ e. s.back e tt, λ h. (s.on h).0)
 
 -- ---- a node
 

@@ -4,7 +4,6 @@ use Rattle.std.proofs.lemmas.List.{append_assoc}
 use Rattle.files_car.specs.Car.{Section}
 use Rattle.ipld_links.specs.Sets.{Among}
 use Rattle.atproto_mst.specs.declared.error.MstError.{MstError}
-use Rattle.atproto_mst.specs.declared.error.MstError.TheVariants.{OutOfMemory}
 use Rattle.atproto_mst.specs.Sinks.{HandsOver, HandsOverFirst, RefusesOne}
 
 append_none : (xs : List Section) → xs ++ [] ≡ xs
@@ -36,16 +35,6 @@ refuses_within holds refuses old mid a b d all e h same k world before x = elim 
   | inl m ↦ inl m
   | inr r ↦ inr (r.0, among_mid r.0 a b d all same r.1, r.2)
 ]
-
-pub wants_memory : {S W : Type 0} (holds : S → W → List Section → Type 0) (refuses : W → Section → MstError → Type 0) (old : S) (all : List Section) (e : MstError)
-    → e ≡ OutOfMemory → RefusesOne holds refuses old all e
-wants_memory holds refuses old all e m world before x = inl m
-
-pub first_none : {S W : Type 0} (holds : S → W → List Section → Type 0) (s : S) (all : List Section) → HandsOverFirst holds s all s
-first_none holds s all = ([], all, refl, takes_none holds s)
-
-pub first_kept : {S W : Type 0} (holds : S → W → List Section → Type 0) (old new : S) (all : List Section) → HandsOver holds old [] new → HandsOverFirst holds old all new
-first_kept holds old new all h = ([], all, refl, h)
 
 -- the first of a part, after another part
 pub first_within : {S W : Type 0} (holds : S → W → List Section → Type 0) (old mid new : S) (a b d all : List Section)

@@ -1,12 +1,11 @@
 -- Which nodes are handed on, if some are stored already.
-use Rattle.std.proofs.Common.{◌≡◌, ◌⊎◌, inl, inr, Bool, true, false, List, [], ◌∷◌, ◌++◌, None, refl, sym, ap, ◌∙◌, subst, append_assoc, append-nil}
+use Rattle.std.proofs.Common.{◌≡◌, inl, inr, Bool, true, false, List, [], ◌∷◌, ◌++◌, None, refl, sym, ap, ◌∙◌, subst, append_assoc, append-nil}
 use Rattle.std.specs.Prelude.{is_some, if◌then◌else◌}
 use Rattle.files_car.specs.Car.{Section}
 use Rattle.ipld_links.specs.Reaching.{Stored}
 use Rattle.ipld_links.specs.Sets.{Among}
 use Rattle.atproto_mst.specs.declared.error.MstError.{MstError}
-use Rattle.atproto_mst.specs.declared.error.MstError.TheVariants.{OutOfMemory}
-use Rattle.atproto_mst.specs.Sinks.{HandsOver, RefusesOne, not_stored}
+use Rattle.atproto_mst.specs.Sinks.{HandsOver, not_stored}
 
 one_kept : (stored : Stored) (s : Section) (ss : List Section) → (b : Bool) → is_some (stored s.0) ≡ b → not_stored stored (s ∷ ss) ≡ (if b then not_stored stored ss else s ∷ not_stored stored ss)
 one_kept stored s ss b e = ap (λ x. if x then not_stored stored ss else s ∷ not_stored stored ss) e
@@ -29,17 +28,6 @@ module _ {S W : Type 0} (H : S → W → List Section → Type 0) (R : W → Sec
   handed_on old new e t h =
       subst (λ l. H new w l) (append_assoc front (not_stored stored before) (s ∷ []) ∙ ap (λ l. front ++ l) (sym (kept_more stored before s false e)))
       (t w (front ++ not_stored stored before) h)
-
-  pub refused_on : (old : S) (e : MstError) → stored s.0 ≡ None → RefusesOne H R old (s ∷ []) e → H old w (front ++ not_stored stored before)
-      → (e ≡ OutOfMemory) ⊎ ((x : Section) × Among x (s ∷ []) × ((stored x.0 ≡ None) × R w x e))
-  refused_on old e none r h = elim (r w (front ++ not_stored stored before) h) [
-    | inl m ↦ inl m
-    | inr f ↦ inr (f.0, f.1, (only f.0 f.1, f.2))
-  ]
-    where
-      only : (x : Section) → Among x (s ∷ []) → stored x.0 ≡ None
-      only x (inl is) = ap (λ y. stored y.0) is ∙ none
-      only x (inr m) = absurd m
 
 -- among the nodes that are not stored
 pub among_kept : (stored : Stored) (x : Section) (ss : List Section) → stored x.0 ≡ None → Among x ss → Among x (not_stored stored ss)

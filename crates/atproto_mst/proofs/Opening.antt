@@ -1,7 +1,6 @@
 -- Levels of a tree, joined and opened.
-use Rattle.std.proofs.Common.{◌≡◌, ◌⊎◌, ◌↔◌, Bool, true, false, inl, inr, ℕ, suc, ◌+◌, ◌<◌, ◌≤◌, add-one, get_or, length, take, take-suc, drop, drop-cons, map, List, [], ◌∷◌, ◌++◌, append_assoc, append-nil, refl, sym, ap, ◌∙◌, subst, Option, Some, None, Result, Ok, Err}
-use Rattle.std.specs.Prelude.{MatchResult, IfOk, OnOk, IfErr, IsTrue, is_some}
-use Rattle.std.proofs.lemmas.List.{drop_all}
+use Rattle.std.proofs.Common.{◌≡◌, ◌⊎◌, ◌↔◌, Bool, true, false, inl, inr, ℕ, ◌+◌, ◌<◌, add-one, get_or, length, take, take-suc, map, List, [], ◌∷◌, ◌++◌, append_assoc, append-nil, refl, sym, ap, ◌∙◌, subst, Option, Some, None, Result, Ok, Err}
+use Rattle.std.specs.Prelude.{MatchResult, IfOk, IsTrue, is_some}
 use Rattle.ipld_links.proofs.Members.{among_push, push_among}
 use Rattle.std.specs.declared.alloc.AllocError.{AllocError}
 use Rattle.ipld_tree.specs.Cid.{CidParts}
@@ -9,9 +8,9 @@ use Rattle.ipld_links.specs.Sets.{Among, members, AddsCid}
 use Rattle.ipld_links.specs.Reaching.{Stored}
 use Rattle.ipld_links.specs.declared.cid_set.CidSet.{CidSet}
 use Rattle.atproto_mst.specs.Entries.{entry_of, entries}
-use Rattle.atproto_mst.specs.Nodes.{NodeRow, NodeParts, IsNodeAt, key_of_row, node_told}
+use Rattle.atproto_mst.specs.Nodes.{NodeParts, IsNodeAt, node_told}
 use Rattle.atproto_mst.specs.Stops.{IsStoredNamed, NodeFault}
-use Rattle.atproto_mst.specs.Levels.{LevelItem, an_entry, a_link, link_items, row_items, node_items, held_items, link_names, OpensItems, DropsShared, IsOfShape, LevelLinksRefused}
+use Rattle.atproto_mst.specs.Levels.{LevelItem, an_entry, a_link, link_items, node_items, held_items, link_names, OpensItems, DropsShared, LevelLinksRefused}
 use Rattle.atproto_mst.specs.declared.entries.MstEntry.{MstEntry}
 use Rattle.atproto_mst.specs.declared.error.MstError.{MstError}
 use Rattle.atproto_mst.specs.declared.error.MstError.TheVariants as error
@@ -40,44 +39,7 @@ opens_joined stored dropped [] ys a b h k = subst (λ l. OpensItems stored dropp
 opens_joined stored dropped (x ∷ xs) ys a b (first, more, one, rest, is) k =
     (first, more ++ b, one, opens_joined stored dropped xs ys more b rest k, ap (λ l. l ++ b) is ∙ append_assoc first more b)
 
--- an entry, and what its link opens to
-pub opens_entry : (stored : Stored) (dropped : List CidParts) (h : LevelEntry) (p : NodeParts) (old mid new : List LevelItem) → OpensItems stored dropped (link_items h.after) (node_items p)
-    → mid ≡ old ++ (an_entry (entry_of h.entry) ∷ link_items p.left) → new ≡ mid ++ row_items [] p.rows
-    → (more : List LevelItem) × OpensItems stored dropped (held_items (h ∷ [])) more × (new ≡ old ++ more)
-opens_entry stored dropped h p old mid new o is_mid is_new = (
-  an_entry (entry_of h.entry) ∷ node_items p,
-  (
-    an_entry (entry_of h.entry) ∷ [],
-    node_items p,
-    refl,
-    subst (λ l. OpensItems stored dropped l (node_items p)) (sym (append-nil (link_items h.after))) o,
-    refl,
-  ),
-  is_new ∙ ap (λ l. l ++ row_items [] p.rows) is_mid ∙ append_assoc old (an_entry (entry_of h.entry) ∷ link_items p.left) (row_items [] p.rows),
-)
-
 -- ---- one entry at a time
-
-pub links_next : (hs : List LevelEntry) (i : ℕ) (h : LevelEntry) (names new all : List CidParts) → i < length hs → h ≡ get_or hs i h
-    → names ++ link_names (held_items (drop i hs)) ≡ all → new ≡ names ++ link_names (link_items h.after)
-    → new ++ link_names (held_items (drop (i + 1) hs)) ≡ all
-links_next hs i h names new all lt is inv pushed =
-    let first : drop i hs ≡ h ∷ drop (i + 1) hs = drop-cons hs i h lt ∙ ap (λ x. x ∷ drop (suc i) hs) (sym is) ∙ ap (λ k. h ∷ drop k hs) (sym (add-one i)) in
-    let rest = held_items (drop (i + 1) hs) in
-    ap (λ l. l ++ link_names rest) pushed ∙ append_assoc names (link_names (link_items h.after)) (link_names rest)
-    ∙ ap (λ l. names ++ l) (sym (links_joined (link_items h.after) rest)) ∙ ap (λ l. names ++ link_names (held_items l)) (sym first) ∙ inv
-
-pub links_ended : (hs : List LevelEntry) (i : ℕ) (names all : List CidParts) → length hs ≤ i → names ++ link_names (held_items (drop i hs)) ≡ all → names ≡ all
-links_ended hs i names all le inv = sym (append-nil names) ∙ ap (λ l. names ++ link_names (held_items l)) (sym (drop_all i hs le)) ∙ inv
-
-pub rows_next : (rows : List NodeRow) (r : NodeRow) (rs : List NodeRow) (key : List ℕ) (before after all : List LevelItem) → rows ≡ r ∷ rs → before ++ row_items key rows ≡ all
-    → after ≡ before ++ (an_entry (key_of_row key r, r.value) ∷ link_items r.after) → after ++ row_items (key_of_row key r) rs ≡ all
-rows_next rows r rs key before after all is inv pushed =
-    ap (λ l. l ++ row_items (key_of_row key r) rs) pushed ∙ append_assoc before (an_entry (key_of_row key r, r.value) ∷ link_items r.after) (row_items (key_of_row key r) rs)
-    ∙ ap (λ l. before ++ row_items key l) (sym is) ∙ inv
-
-pub rows_ended : (rows : List NodeRow) (key : List ℕ) (before all : List LevelItem) → rows ≡ [] → before ++ row_items key rows ≡ all → before ≡ all
-rows_ended rows key before all is inv = sym (append-nil before) ∙ ap (λ l. before ++ row_items key l) (sym is) ∙ inv
 
 map_joined : (xs ys : List MstEntry) → map (λ e. an_entry (entry_of e)) (xs ++ ys) ≡ map (λ e. an_entry (entry_of e)) xs ++ map (λ e. an_entry (entry_of e)) ys
 map_joined [] ys = refl
@@ -156,22 +118,10 @@ drops_all names others first second b (Err e) n is_first is_second h = tt
 
 -- ---- refusals
 
-pub shape_refused : (stored : Stored) (names : List CidParts) (e : MstError) → (e ≡ error.OutOfMemory) ⊎ IsOfShape e → LevelLinksRefused stored names e
-shape_refused stored names e (inl m) = inl m
-shape_refused stored names e (inr s) = inr (inl s)
-
 pub more_refused : (stored : Stored) (names more : List CidParts) (e : MstError) → ((q : CidParts) → Among q names → Among q more) → LevelLinksRefused stored names e → LevelLinksRefused stored more e
 more_refused stored names more e f (inl m) = inl m
 more_refused stored names more e f (inr (inl s)) = inr (inl s)
 more_refused stored names more e f (inr (inr (name, among, fault))) = inr (inr (name, f name among, fault))
-
--- the links of a single entry are those of its link
-pub entry_refused : (stored : Stored) (h : LevelEntry) (e : MstError) → LevelLinksRefused stored (link_names (link_items h.after)) e → LevelLinksRefused stored (link_names (held_items (h ∷ []))) e
-entry_refused stored h e r = subst (λ l. LevelLinksRefused stored (link_names l) e) (sym (append-nil (link_items h.after))) r
-
-pub matched : {T E P P' : Type 0} (Q Q' : E → Type 0) (r : Result T E) → (P → P') → ((e : E) → Q e → Q' e) → OnOk r P → IfErr r Q → MatchResult r (λ _. P') Q'
-matched Q Q' (Ok x) f g p q = f p
-matched Q Q' (Err e) f g p q = g e q
 
 -- ---- a link
 
@@ -216,13 +166,6 @@ level_next stored dropped hs h rows old new (before, opened, was) (more, opens, 
   is ∙ ap (λ l. l ++ more) was ∙ append_assoc rows before more,
 )
 
-pub level_ended : (stored : Stored) (dropped : List CidParts) (left : Option CidParts) (p : NodeParts) (hs : List LevelEntry) (all : List LevelItem) → OpensItems stored dropped (link_items left) (node_items p)
-    → (more : List LevelItem) × OpensItems stored dropped (held_items hs) more × (all ≡ row_items [] p.rows ++ more)
-    → OpensItems stored dropped (link_items left ++ held_items hs) (link_items p.left ++ all)
-level_ended stored dropped left p hs all first (more, opened, is) =
-    subst (OpensItems stored dropped (link_items left ++ held_items hs)) (append_assoc (link_items p.left) (row_items [] p.rows) more ∙ ap (λ l. link_items p.left ++ l) (sym is))
-    (opens_joined stored dropped (link_items left) (held_items hs) (node_items p) more first opened)
-
 -- the links of one of the entries are links of the level
 pub links_within : (left : Option CidParts) (all before rest : List LevelEntry) (h : LevelEntry) → all ≡ before ++ h ∷ rest
     → (q : CidParts) → Among q (link_names (held_items (h ∷ []))) → Among q (link_names (link_items left ++ held_items all))
@@ -232,6 +175,3 @@ links_within left all before rest h is q m =
     let there = subst (Among q) (sym (links_joined (held_items before) (held_items (h ∷ rest)))) (among_right q (link_names (held_items before)) (link_names (held_items (h ∷ rest))) following) in
     let all_there = subst (Among q) (ap link_names (sym (held_joined before (h ∷ rest)) ∙ ap held_items (sym is))) there in
     subst (Among q) (sym (links_joined (link_items left) (held_items all))) (among_right q (link_names (link_items left)) (link_names (held_items all)) all_there)
-
-pub left_within : (left : Option CidParts) (rest : List LevelItem) (q : CidParts) → Among q (link_names (link_items left)) → Among q (link_names (link_items left ++ rest))
-left_within left rest q m = subst (Among q) (sym (links_joined (link_items left) rest)) (among_left q (link_names (link_items left)) (link_names rest) m)

@@ -77,11 +77,6 @@ pub record SearchedTo (most : ℕ) (stored : Stored) (key : List ℕ) (root : Ci
   pub stops : (e : MstError) → FindStops (most - layer) stored key name e → FindStops most stored key root e
   pub named : IsStoredNamed stored name → IsStoredNamed stored root
 
-pub search_begins : (most : ℕ) (stored : Stored) (key : List ℕ) (root : CidParts) → SearchedTo most stored key root 0 root
-search_begins most stored key root =
-    let all : most - 0 ≡ most = omega arith in
-    record { found = λ x h. subst (λ m. FindsRecord m stored key root x) all h; stops = λ e h. subst (λ m. FindStops m stored key root e) all h; named = λ h. h }
-
 pub layers_left : (most layer : ℕ) → layer < most → suc (most - (layer + 1)) ≡ most - layer
 layers_left most layer lt = omega (arith, lt)
 

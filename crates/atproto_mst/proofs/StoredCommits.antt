@@ -11,7 +11,6 @@ use Rattle.atproto_mst.specs.Keys.{Entry}
 use Rattle.atproto_mst.specs.Entries.{IsMst}
 use Rattle.atproto_mst.specs.Commits.{commit_tree}
 use Rattle.atproto_mst.specs.UnreadCommits.{UnreadCommit}
-use Rattle.atproto_mst.specs.Stops.{IsStoredNamed}
 use Rattle.atproto_mst.specs.Repos.{IsOwnBlock, IsStoredCommit, CommitRefused, RepoRefused}
 use Rattle.types_repository.specs.declared.repository.Commit.{Commit}
 use Rattle.atproto_mst.specs.declared.repo_error.RepoError.{RepoError}
@@ -45,10 +44,6 @@ only_memory stored name c (error.Tree e) s h = absurd h
 pub whole_commit : {T : Type 0} (stored : Stored) (name : CidParts) (r : Result T RepoError) → IfErr r (CommitRefused stored name)
     → (c : Commit) → IsStoredCommit stored name c → IfErr r (λ e. e ≡ error.OutOfMemory)
 whole_commit stored name r h c s = IfErr-weaker r (CommitRefused stored name) (λ e. e ≡ error.OutOfMemory) (λ e k. only_memory stored name c e s k) h
-
--- a commit that is stored has a block of its name
-pub commit_named : (stored : Stored) (name : CidParts) (c : Commit) → IsStoredCommit stored name c → IsStoredNamed stored name
-commit_named stored name c (version, (b, at, spelled)) = (b, at.0, at.1)
 
 -- ---- repositories
 

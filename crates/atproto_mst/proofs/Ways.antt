@@ -1,5 +1,5 @@
 -- The way of a key over nodes.
-use Rattle.std.proofs.Common.{◌≡◌, inl, inr, ℕ, zero, suc, ◌+◌, ◌-◌, ◌<◌, List, [], ◌∷◌, ◌++◌, Option, Some, None, refl, sym, ap, ◌∙◌, subst, append_assoc, arith}
+use Rattle.std.proofs.Common.{◌≡◌, inl, inr, ℕ, zero, suc, ◌+◌, ◌-◌, ◌<◌, List, [], ◌∷◌, ◌++◌, Option, Some, None, refl, sym, ap, ◌∙◌, subst, append_assoc}
 use Rattle.ipld_tree.specs.Cid.{CidParts}
 use Rattle.ipld_links.specs.Reaching.{Stored}
 use Rattle.atproto_mst.specs.Nodes.{NodeParts, IsNodeAt}
@@ -16,11 +16,6 @@ use Rattle.atproto_mst.proofs.Searching.{layers_left, finds_never_stops}
 -- the names on the way from this node, after those already read, are those from the root
 pub record WentTo (most : ℕ) (stored : Stored) (key : List ℕ) (root : CidParts) (layer : ℕ) (name : CidParts) (names : List CidParts) : Type 0 where
   pub all : (more : List CidParts) → IsWay (most - layer) stored key name more → IsWay most stored key root (names ++ more)
-
-pub way_begins : (most : ℕ) (stored : Stored) (key : List ℕ) (root : CidParts) → WentTo most stored key root 0 root []
-way_begins most stored key root =
-    let whole : most - 0 ≡ most = omega arith in
-    record { all = λ more h. subst (λ m. IsWay m stored key root more) whole h }
 
 module _ (most : ℕ) (stored : Stored) (key : List ℕ) (root name : CidParts) (layer : ℕ) (names after : List CidParts) (lt : layer < most) (went : WentTo most stored key root layer name names) (is : after ≡ names ++ name ∷ []) (p : NodeParts) (at : IsNodeAt stored name p) (s : Sought) (says : s ≡ seek_in key p) where
   goes_here : (more : List CidParts) → WayBelow (IsWay (most - (layer + 1)) stored key) s more → IsWay most stored key root (after ++ more)

@@ -2,7 +2,7 @@
 use Rattle.std.proofs.Common.{◌≡◌, ◌≢◌, ℕ, ◌+◌, List, [], ◌∷◌, ◌++◌, length, take, Option, None, Some, Bool, true, false, nat_eq, eqb-true, refl, sym, ap, ◌∙◌, subst, arith, append_assoc}
 use Rattle.std.proofs.lemmas.Bool.{eqb-false}
 use Rattle.std.proofs.lemmas.List.{take_at, append_cancel_left}
-use Rattle.ipld_tree.specs.Cid.{AreCidParts, cid_bytes, IsCid}
+use Rattle.ipld_tree.specs.Cid.{cid_bytes, IsCid}
 use Rattle.ipld_tree.specs.CidFault.{IsFault}
 use Rattle.ipld_tree.specs.declared.cid_error.CidError.{CidError}
 use Rattle.dag_pb.specs.Varint.{AreGroups, BeginsWithVarint, BeginsNoVarint, BeginsNoCounted}
@@ -78,9 +78,6 @@ stops_at_cid b form rest fault h f = let k = bytes_parts 0x0a b form rest h in (
 
 -- ---- the size
 
-pub size_in_nothing : (b : List ℕ) → b ≡ [] → MayBeNumber 0x18 b None
-size_in_nothing b e = e
-
 -- the bytes are not a field of a size
 abbrev pub IsNoSize : List ℕ → Type 0
 IsNoSize b = (size : Option ℕ) → MayBeNumber 0x18 b size → ⊥
@@ -106,9 +103,6 @@ more_size b c rest n h k there (Some m) (d, i, j) =
 pub stops_after_two : (b c rest : List ℕ) (m n : ℕ) (stop : Stop) → BeginsWithVarint b m c → BeginsWithVarint c n rest → StopsIn rest stop → StopsIn b stop
 stops_after_two b c rest m n stop h k s = stops_after_varint b m c stop h (stops_after_varint c n rest stop k s)
 
-pub whole_size : (b c rest : List ℕ) (n : ℕ) → BeginsWithVarint b 0x18 c → BeginsWithVarint c n rest → rest ≡ [] → MayBeNumber 0x18 b (Some n)
-whole_size b c rest n h k e = (c, h, subst (BeginsWithVarint c n) e k)
-
 -- ---- the name
 
 abbrev pub IsNoLinkEnd : List ℕ → Type 0
@@ -121,10 +115,6 @@ no_link_end b there none (Some name) size (r, (c, h, i), k) = none 0x12 c h
 pub no_counted_name : (b rest : List ℕ) → BeginsWithVarint b 0x12 rest → BeginsNoCounted rest → IsNoLinkEnd b
 no_counted_name b rest h none None size (r, e, k) = other_size b 0x12 rest h (λ e. absurd (omega (arith, e))) size (subst (λ x. MayBeNumber 0x18 x size) (sym e) k)
 no_counted_name b rest h none (Some name) size (r, i, k) = no_counted_bytes 0x12 b rest h none name r i
-
-pub end_in_nothing : (b : List ℕ) → b ≡ [] → HasOneEnd b b
-end_in_nothing b e None size rest h k = sym h
-end_in_nothing b e (Some name) size rest (c, h, i) k = absurd (none_in_nothing 0x12 c (subst (λ x. BeginsWithVarint x 0x12 c) e h))
 
 pub end_without_name : (b : List ℕ) (n : ℕ) (rest : List ℕ) → BeginsWithVarint b n rest → n ≢ 0x12 → HasOneEnd b b
 end_without_name b n rest h other None size r e k = sym e
@@ -145,9 +135,6 @@ stops_in_size b name rest stop h s = let k = may_parts 0x12 b name rest h in sto
 
 pub no_size_end : (b rest : List ℕ) → HasOneEnd b rest → IsNoSize rest → IsNoLinkEnd b
 no_size_end b rest one none name size (r, h, k) = none size (subst (λ x. MayBeNumber 0x18 x size) (one name size r h k) k)
-
-pub link_read : (b form rest : List ℕ) (link : LinkParts) → BeginsWithBytes 0x0a b form rest → AreCidParts link.hash × (form ≡ cid_bytes link.hash) → IsLinkEnd rest link.name link.tsize → IsLink b link
-link_read b form rest link h valid e = record { following = rest; valid = valid.0; hash = subst (λ x. BeginsWithBytes 0x0a b x rest) valid.1 h; ends = e }
 
 pub no_end : (b form rest : List ℕ) → BeginsWithBytes 0x0a b form rest → IsNoLinkEnd rest → (link : LinkParts) → IsLink b link → ⊥
 no_end b form rest h none link k = none link.name link.tsize (subst (λ x. IsLinkEnd x link.name link.tsize) (sym (one_bytes b 0x0a 0x0a form (cid_bytes link.hash) rest k.following h k.hash).2) k.ends)

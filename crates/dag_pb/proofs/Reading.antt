@@ -1,7 +1,7 @@
 -- A block, read field by field.
 use Rattle.std.proofs.Common.{◌≡◌, ◌≢◌, ℕ, List, [], ◌∷◌, ◌++◌, map, Option, None, Some, refl, sym, ap, ◌∙◌, subst}
 use Rattle.ipld_tree.specs.Cid.{cid_bytes}
-use Rattle.dag_pb.specs.Node.{LinkParts, Field, link_field, data_field, BeginsWithField, BeginsNoField, BeginsWithFields, NodeParts, IsNode, HasNode, node_links}
+use Rattle.dag_pb.specs.Node.{Field, BeginsWithField, BeginsNoField, BeginsWithFields, NodeParts, IsNode, HasNode, node_links}
 use Rattle.dag_pb.specs.Reads.{links_in}
 use Rattle.dag_pb.specs.Orders.{order_after}
 use Rattle.dag_pb.specs.declared.node.Order.{Order}
@@ -14,9 +14,6 @@ pub record IsReadTo (b : List ℕ) (order : Order) (rest : List ℕ) : Type 0 wh
   pub before : List Field
   pub row : BeginsWithFields b before rest
   pub order_is : orders (Some Nothing) before ≡ Some order
-
-pub none_read : (b : List ℕ) → IsReadTo b Nothing b
-none_read b = record { before = []; row = refl; order_is = refl }
 
 pub one_read : (b : List ℕ) (order next : Order) (rest following : List ℕ) (f : Field) → IsReadTo b order rest → BeginsWithField rest f following → ◌≡◌ {A = Option Order} (Some next) (order_after order f) → IsReadTo b next following
 one_read b order next rest following f r h e = record {
@@ -64,24 +61,6 @@ field_found b field following row h k =
 abbrev pub HasSameLinks : List ℕ → List ℕ → Type 0
 HasSameLinks b rest = (row : List Field) → BeginsWithFields b row []
     → (more : List Field) × BeginsWithFields rest more [] × (links_in row ≡ links_in more)
-
-pub same_links : (b : List ℕ) → HasSameLinks b b
-same_links b row h = (row, h, refl)
-
-pub data_passed : (b rest following inner : List ℕ) → HasSameLinks b rest → BeginsWithField rest (data_field inner) following → HasSameLinks b following
-data_passed b rest following inner same h row k =
-    let s = same row k in
-    let found = field_found rest (data_field inner) following s.0 h s.1 in
-    (found.0, found.1, s.2 ∙ ap links_in found.2)
-
-pub link_found : (b rest following : List ℕ) (link : LinkParts) → HasSameLinks b rest → BeginsWithField rest (link_field link) following → (row : List Field) → BeginsWithFields b row [] → (more : List Field) × BeginsWithFields following more [] × (links_in row ≡ link ∷ links_in more)
-link_found b rest following link same h row k =
-    let s = same row k in
-    let found = field_found rest (link_field link) following s.0 h s.1 in
-    (found.0, found.1, s.2 ∙ ap links_in found.2)
-
-pub none_left : (b rest : List ℕ) → HasSameLinks b rest → rest ≡ [] → (row : List Field) → BeginsWithFields b row [] → links_in row ≡ []
-none_left b rest same over row k = let s = same row k in s.2 ∙ ap links_in (row_over rest s.0 over s.1)
 
 -- bytes that are fields, and are not empty, begin with a field
 pub field_stands : (b : List ℕ) → b ≢ [] → BeginsNoField b → ((row : List Field) × BeginsWithFields b row []) → ⊥

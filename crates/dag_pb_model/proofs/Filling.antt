@@ -1,12 +1,12 @@
 -- A data model, put part by part.
-use Rattle.std.proofs.Common.{◌≡◌, ℕ, ◌+◌, ◌≤◌, List, [], ◌∷◌, ◌++◌, length, Some, refl, sym, ap, ◌∙◌, subst, arith, append_assoc, append-nil, length-append}
+use Rattle.std.proofs.Common.{◌≡◌, ℕ, ◌+◌, ◌≤◌, List, [], ◌∷◌, ◌++◌, length, Some, sym, ap, ◌∙◌, subst, arith, append_assoc, append-nil, length-append}
 use Rattle.ipld_tree.specs.Tree.{Tree}
 use Rattle.ipld_tree.specs.Spelling.{spelling, text_spelling}
 use Rattle.dag_pb.specs.Node.{LinkParts, Field, BeginsWithFields}
 use Rattle.dag_pb.specs.Reads.{links_in}
 use Rattle.dag_pb.proofs.Rows.{one_row}
 use Rattle.lent_memory.specs.Puts.{PutsAt}
-use Rattle.lent_memory.proofs.Putting.{put_both, none_put, room_after}
+use Rattle.lent_memory.proofs.Putting.{put_both, room_after}
 use Rattle.dag_pb_model.specs.Forms.{part_form, written_link, links_form}
 use Rattle.dag_pb_model.proofs.Forms.{part_some, link_written}
 
@@ -51,29 +51,12 @@ pub record Placing (fields rest old now : List ℕ) (at place : ℕ) : Type 0 wh
   pub fits : at + length (done ++ links_form (links_in left)) ≤ length old
   pub puts : PutsAt done at old now place
 
-pub none_placed : (fields old : List ℕ) (at : ℕ) → ((row : List Field) × BeginsWithFields fields row [] × (at + length (links_form (links_in row)) ≤ length old)) → Placing fields fields old old at at
-none_placed fields old at (row, h, room) = record {
-  row = row;
-  stands = h;
-  left = row;
-  begins = h;
-  done = [];
-  is = refl;
-  fits = room;
-  puts = none_put at old (omega (arith, room));
-}
-
 -- the next link has room
 first_form : (l : LinkParts) (ls : List LinkParts) → links_form (l ∷ ls) ≡ written_link l ++ links_form ls
 first_form l ls = ap (λ s. s ++ links_form ls) (link_written l)
 
 next_form : (left : List Field) (l : LinkParts) (more : List Field) → links_in left ≡ l ∷ links_in more → links_form (links_in left) ≡ written_link l ++ links_form (links_in more)
 next_form left l more e = ap links_form e ∙ first_form l (links_in more)
-
-pub next_room : (fields rest old now : List ℕ) (at place : ℕ) (l : LinkParts) (more : List Field) (g : Placing fields rest old now at place) → links_in g.left ≡ l ∷ links_in more → place + length (written_link l) ≤ length now
-next_room fields rest old now at place l more g e =
-    let following = room_after at place g.done (links_form (links_in g.left)) old now g.fits g.puts in
-    omega (arith, following, ap length (next_form g.left l more e), length-append (written_link l) (links_form (links_in more)))
 
 pub one_placed : (fields rest following old now new : List ℕ) (at place end : ℕ) (l : LinkParts) (more : List Field) (g : Placing fields rest old now at place) → links_in g.left ≡ l ∷ links_in more → BeginsWithFields following more [] → PutsAt (written_link l) place now new end → Placing fields following old new at end
 one_placed fields rest following old now new at place end l more g e h put =

@@ -3,10 +3,10 @@ use Rattle.std.proofs.Common.{◌≡◌, ℕ, ◌+◌, ◌*◌, ◌^◌, ◌<◌
 use Rattle.std.specs.List.{AllByRecursion}
 use Rattle.dagcbor_core.specs.Head.{head}
 use Rattle.ipld_tree.specs.Spelling.{spelling, text_spelling}
-use Rattle.dag_pb.specs.Node.{LinkParts, NodeParts, IsNode, HasNode, Field, link_field, data_field, data_fields, BeginsWithFields, AreFieldsOf}
+use Rattle.dag_pb.specs.Node.{LinkParts, NodeParts, IsNode, Field, link_field, data_field, data_fields, BeginsWithFields, AreFieldsOf}
 use Rattle.dag_pb.specs.Reads.{links_in}
 use Rattle.dag_pb.proofs.Orders.{node_links_in}
-use Rattle.dag_pb_model.specs.Model.{link_model, node_model, HasTextNames}
+use Rattle.dag_pb_model.specs.Model.{node_model, HasTextNames}
 use Rattle.dag_pb_model.specs.Forms.{data_form, part_count, links_form, IsMeasured, Adds}
 use Rattle.dag_pb_model.specs.declared.measure.Measure.{Measure}
 use Rattle.dag_pb_model.proofs.Forms.{node_written}
@@ -86,57 +86,6 @@ pub record MeasuredTo (b rest : List ℕ) (m : Measure) : Type 0 where
   pub rests : AreTexts (links_in row) → AreTexts (links_in left)
   pub few : m.links + length rest ≤ length b
   pub fits : m.length + 2 ^ 64 * length rest ≤ 2 ^ 64 * length b
-
-pub none_measured : (b : List ℕ) (m : Measure) → HasNode b → option_map (λ s. s.now) m.«data» ≡ None → m.links ≡ 0 → m.length ≡ 0 → MeasuredTo b b m
-none_measured b m (node, (row, h, are)) d l n = record {
-  node = node;
-  row = row;
-  stands = h;
-  are = are;
-  left = row;
-  begins = h;
-  inner = ap (λ o. data_with o row) d;
-  links = omega (arith, l);
-  counted = omega (arith, n);
-  texts = λ t. t;
-  rests = λ t. t;
-  few = omega (arith, l);
-  fits = omega (arith, n);
-}
-
-pub one_measured : (b rest following : List ℕ) (f : Field) (more : List Field) (m n : Measure) (g : MeasuredTo b rest m) → BeginsWithFields following more [] → g.left ≡ f ∷ more → length following < length rest → Adds m f (Some n) → MeasuredTo b following n
-one_measured b rest following (link_field l) more m n g h is short a =
-    let first = spelling (link_model l) in
-    record {
-      node = g.node;
-      row = g.row;
-      stands = g.stands;
-      are = g.are;
-      left = more;
-      begins = h;
-      inner = ap (λ o. data_with (option_map (λ s. s.now) o) more) a.1 ∙ ap (data_with (option_map (λ s. s.now) m.«data»)) (sym is) ∙ g.inner;
-      links = omega (arith, a.2, g.links, ap (λ fs. length (links_in fs)) is);
-      counted = omega (arith, a.3, g.counted, ap (λ fs. length (links_form (links_in fs))) is, length-append first (links_form (links_in more)));
-      texts = λ t. g.texts (subst (λ fs. AreTexts (links_in fs)) (sym is) (a.0, t));
-      rests = λ t. (subst (λ fs. AreTexts (links_in fs)) is (g.rests t)).1;
-      few = omega (arith, a.2, g.few, short);
-      fits = omega (arith, a.4, g.fits, short);
-    }
-one_measured b rest following (data_field s) more m n g h is short a = record {
-  node = g.node;
-  row = g.row;
-  stands = g.stands;
-  are = g.are;
-  left = more;
-  begins = h;
-  inner = ap (λ o. data_with o more) a.0 ∙ ap (data_with (option_map (λ s. s.now) m.«data»)) (sym is) ∙ g.inner;
-  links = omega (arith, a.1, g.links, ap (λ fs. length (links_in fs)) is);
-  counted = omega (arith, a.2, g.counted, ap (λ fs. length (links_form (links_in fs))) is);
-  texts = λ t. g.texts (subst (λ fs. AreTexts (links_in fs)) (sym is) t);
-  rests = λ t. subst (λ fs. AreTexts (links_in fs)) is (g.rests t);
-  few = omega (arith, a.1, g.few, short);
-  fits = omega (arith, a.2, g.fits, short);
-}
 
 pub no_text_measured : (b rest : List ℕ) (f : Field) (more : List Field) (m : Measure) (g : MeasuredTo b rest m) → g.left ≡ f ∷ more → Adds m f None → (parts : NodeParts) × IsNode b parts × ¬ HasTextNames parts
 no_text_measured b rest (link_field l) more m g is a = (

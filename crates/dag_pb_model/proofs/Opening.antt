@@ -3,7 +3,7 @@ use Rattle.std.proofs.Common.{◌≡◌, ◌≢◌, ℕ, ◌≤◌, List, [], �
 use Rattle.dagcbor_core.specs.Head.{head}
 use Rattle.dagcbor_core.specs.Splits.{SplitsHead, BeginsWithHead}
 use Rattle.dagcbor_core.proofs.Heads.{head_unique}
-use Rattle.ipld_tree.specs.Tree.{Tree, bytes, list, mapping, Entries, no_entries, entry, any_need, items_need}
+use Rattle.ipld_tree.specs.Tree.{bytes, list, mapping, Entries, no_entries, entry, any_need, items_need}
 use Rattle.ipld_tree.specs.Spelling.{IsFront, AreFronts, AreEntryFronts, spelling, item_count, entry_count, items_spelling, entries_spelling, text_spelling}
 use Rattle.ipld_tree.proofs.Unique.{split_at_length}
 use Rattle.ipld_tree.proofs.Fronts.{map_opened, list_opened, list_closed}
@@ -71,10 +71,6 @@ pub no_links_of_both : (b s c : List ℕ) → IsEntry b (codes "Data") (bytes s)
 no_links_of_both b s c h none None count rest k = omega (arith, k.0)
 no_links_of_both b s c h none (Some d) count rest k =
     none count rest (subst (λ x. IsLinksFront x count rest) (sym (one_entry b (codes "Data") c k.1.0 (bytes s) (bytes d) h k.1.1).1) k.1.2)
-
-pub no_such_entries : (n : ℕ) (b : List ℕ) → n ≢ 1 → n ≢ 2 → (inner : Option (List ℕ)) (count : ℕ) (rest : List ℕ) → ¬ AreNodeEnds n b inner count rest
-no_such_entries n b x y None count rest k = x k.0
-no_such_entries n b x y (Some d) count rest k = y k.0
 
 pub other_node_head : (b : List ℕ) (m n : ℕ) (x : List ℕ) → SplitsHead b m n x → ¬ (m ≡ 5) → (inner : Option (List ℕ)) (count : ℕ) (rest : List ℕ) → ¬ IsNodeFront b inner count rest
 other_node_head b m n x h other inner count rest k = other (one_head b m n 5 k.0 x k.1 h k.2).0
@@ -197,7 +193,3 @@ pub node_block : (b : List ℕ) (node : NodeParts) → IsFront b (node_model nod
 node_block b node f =
     let need = node_need node.«data» node.links in
     (record { well_formed = f.well_formed; spellable = f.spellable; is = f.is ∙ append-nil (spelling (node_model node)) }, omega (arith, need))
-
--- a block of it has it at its front
-pub block_front : (b : List ℕ) (t : Tree) → IsBlock b t → IsFront b t []
-block_front b t h = record { well_formed = h.0.well_formed; spellable = h.0.spellable; is = h.0.is ∙ sym (append-nil (spelling t)) }

@@ -46,9 +46,6 @@ no_link_of b c e none (cid, rest, f) =
 pub no_cid_of : (b c payload following : List ℕ) → b ≡ 0xd8 ∷ 0x2a ∷ c → IsFront c (bytes payload) following → ¬ ((cid : List ℕ) × IsCid cid × (payload ≡ 0x00 ∷ cid)) → ¬ ((cid : List ℕ) × (rest : List ℕ) × IsFront b (link cid) rest)
 no_cid_of b c payload following e f none = no_link_of b c e (λ cid rest valid g. none (cid, valid, cc (front_unique c following rest (bytes payload) (bytes (0x00 ∷ cid)) f g).0))
 
-pub link_ends : (cid b c rest : List ℕ) → b ≡ 0xd8 ∷ 0x2a ∷ c → IsCid cid → IsFront c (bytes (0x00 ∷ cid)) rest → IsFront b (link cid) rest
-link_ends cid b c rest e valid f = record { well_formed = valid; spellable = omega (arith, f.spellable); is = e ∙ ap (λ x. 0xd8 ∷ 0x2a ∷ x) f.is }
-
 -- ---- entries
 
 -- each key, as it is spelled
@@ -89,37 +86,13 @@ hash_judged cid rest key front b c (Some p) is e k = (k.0, entry_read key front 
 pub one_entry : (b key x y : List ℕ) (t u : Tree) → IsEntry b key t x → IsEntry b key u y → (t ≡ u) × (x ≡ y)
 one_entry b key x y t u h k = front_unique h.0 x y t u h.2 (after_key key (text_spelling key) b h.0 y u refl h.1 k)
 
-name_or_size : (b x y : List ℕ) (t u : Tree) → IsEntry b (codes "Name") t x → IsEntry b (codes "Tsize") u y → ⊥
-name_or_size b x y t u h k =
-    let e : ◌≡◌ {A = List ℕ} (0x64 ∷ 0x4e ∷ 0x61 ∷ 0x6d ∷ 0x65 ∷ h.0) (0x65 ∷ 0x54 ∷ 0x73 ∷ 0x69 ∷ 0x7a ∷ 0x65 ∷ k.0) = ap (λ z. z ++ h.0) name_key ∙ sym h.1 ∙ k.1 ∙ ap (λ z. z ++ k.0) (sym size_key) in
-    let first : ◌≡◌ {A = ℕ} 0x64 0x65 = cc e in
-    omega (arith, first)
-
 -- ---- the name and the size
-
-pub no_one_end : (b : List ℕ) → ¬ ((s : List ℕ) × (rest : List ℕ) × IsEntry b (codes "Name") (text s) rest) → ¬ ((n : ℕ) × (rest : List ℕ) × IsEntry b (codes "Tsize") (integer (pos n)) rest) → HasNoEnds 2 b
-no_one_end b name size None None rest k = omega (arith, k.0)
-no_one_end b name size (Some s) None rest k = name (s, rest, k.1)
-no_one_end b name size None (Some n) rest k = size (n, rest, k.1)
-no_one_end b name size (Some s) (Some n) rest k = omega (arith, k.0)
-
-pub no_name_of_both : (b : List ℕ) → ¬ ((s : List ℕ) × (rest : List ℕ) × IsEntry b (codes "Name") (text s) rest) → HasNoEnds 3 b
-no_name_of_both b name None None rest k = omega (arith, k.0)
-no_name_of_both b name (Some s) None rest k = omega (arith, k.0)
-no_name_of_both b name None (Some n) rest k = omega (arith, k.0)
-no_name_of_both b name (Some s) (Some n) rest k = name (s, k.1.0, k.1.1)
 
 pub no_size_of_both : (b s c : List ℕ) → IsEntry b (codes "Name") (text s) c → ¬ ((n : ℕ) × (rest : List ℕ) × IsEntry c (codes "Tsize") (integer (pos n)) rest) → HasNoEnds 3 b
 no_size_of_both b s c h size None None rest k = omega (arith, k.0)
 no_size_of_both b s c h size (Some u) None rest k = omega (arith, k.0)
 no_size_of_both b s c h size None (Some n) rest k = omega (arith, k.0)
 no_size_of_both b s c h size (Some u) (Some n) rest k = size (n, rest, subst (λ x. IsEntry x (codes "Tsize") (integer (pos n)) rest) (sym (one_entry b (codes "Name") c k.1.0 (text s) (text u) h k.1.1).1) k.1.2)
-
-pub no_such_ends : (count : ℕ) (b : List ℕ) → count ≢ 1 → count ≢ 2 → count ≢ 3 → HasNoEnds count b
-no_such_ends count b x y z None None rest k = x k.0
-no_such_ends count b x y z (Some s) None rest k = y k.0
-no_such_ends count b x y z None (Some n) rest k = y k.0
-no_such_ends count b x y z (Some s) (Some n) rest k = z k.0
 
 -- ---- links
 

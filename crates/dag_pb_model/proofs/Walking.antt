@@ -91,19 +91,6 @@ pub record Walked (all : List ℕ) (count left : ℕ) (rest : List ℕ) (size : 
   pub sorted_is : MatchBool sorted (AreSorted done) (¬ AreSorted done)
   pub named : IsLastName last done
 
-pub none_walked : (all : List ℕ) (count : ℕ) → Walked all count count all 0 true []
-none_walked all count = record {
-  done = [];
-  counted = omega arith;
-  closed = λ ls h. h;
-  none = λ h. h;
-  spellable = tt;
-  size_is = refl;
-  few = omega arith;
-  sorted_is = λ k d low here. absurd (omega (arith, here));
-  named = record { none = λ e. refl; some = λ k d e. absurd (omega (arith, e)) };
-}
-
 all_end : (ls : List LinkParts) (l : LinkParts) → AllByRecursion IsSpellableLink ls → IsSpellableLink l → AllByRecursion IsSpellableLink (ls ++ l ∷ [])
 all_end [] l h k = (k, tt)
 all_end (m ∷ ls) l h k = (h.0, all_end ls l h.1 k)

@@ -1,5 +1,5 @@
 -- The links in held blocks that name no held block.
-use Rattle.std.proofs.Common.{◌≡◌, ◌⊎◌, inl, inr, ℕ, List, [], ◌∷◌, ◌++◌, Bool, true, false, cond, refl, sym, ap, ◌∙◌, subst, append_assoc, append-nil, ◌↔◌, Option, None, Some, Vec, Global, BTreeMap}
+use Rattle.std.proofs.Common.{◌≡◌, inl, inr, ℕ, List, [], ◌∷◌, ◌++◌, Bool, true, false, cond, refl, sym, ap, ◌∙◌, subst, append_assoc, append-nil, ◌↔◌, Option, None, Some, Vec, Global, BTreeMap}
 use Rattle.std.specs.List.{AllByRecursion}
 use Rattle.std.specs.Map.{lookup}
 use Rattle.std.specs.BTreeMap.{is_at, get}
@@ -20,17 +20,6 @@ use Rattle.dagcbor_blocks.proofs.Members.{all_among, found_among}
 use Rattle.ipld_links.proofs.Within.{block_links_are_cids}
 use Rattle.ipld_links.proofs.Members.{among_map, map_among, among_push, push_among, same_at}
 use Rattle.dagcbor_blocks.proofs.Missing.{AddedSoFar}
-
--- ---- lists
-
-among_append : {X : Type 0} (x : X) (xs ys : List X) → Among x (xs ++ ys) → Among x xs ⊎ Among x ys
-among_append x [] ys h = inr h
-among_append x (z ∷ zs) ys (inl e) = inl (inl e)
-among_append x (z ∷ zs) ys (inr h) = elim (among_append x zs ys h) [ inl m ↦ inl (inr m) | inr m ↦ inr m ]
-
-among_mid : {X : Type 0} (xs : List X) (x : X) (ys : List X) → Among x (xs ++ x ∷ ys)
-among_mid [] x ys = inl refl
-among_mid (z ∷ zs) x ys = inr (among_mid zs x ys)
 
 -- ---- a block and its links
 

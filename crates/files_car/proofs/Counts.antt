@@ -3,8 +3,8 @@ use Rattle.std.proofs.Common.{◌≡◌, inl, inr, ℕ, List, [], ◌++◌, leng
 use Rattle.ipld_tree.specs.Cid.{varint}
 use Rattle.ipld_tree.specs.declared.cid_error.CidError.{CidError}
 use Rattle.ipld_tree.proofs.Cids.{varint_unique}
-use Rattle.files_car.specs.Car.{counted, Section, section_body}
-use Rattle.files_car.specs.Splits.{SplitsCounted, CountFault, BeginsWithCid, BeginsNoCid, SplitsSection, BeginsNoSection, SectionFault}
+use Rattle.files_car.specs.Car.{Section, section_body}
+use Rattle.files_car.specs.Splits.{SplitsCounted, CountFault, BeginsNoCid, SplitsSection, BeginsNoSection, SectionFault}
 use Rattle.files_car.specs.declared.error.CarError.{CarError}
 use Rattle.files_car.specs.declared.error.CarError.TheVariants.{Truncated, InvalidLength, InvalidCid}
 use Rattle.files_car.proofs.Cars.{counted_unique}
@@ -48,9 +48,3 @@ no_section_named E f b body rest h none = (λ s more k. by s more k, (body, rest
     by s more k =
         let same = counted_unique body (section_body s) rest more h.0 k.0.1 (sym h.1 ∙ k.1) in
         none.0 s.0 s.1 (k.0.0, same.0)
-
--- the name and the block in the bytes of a section
-pub section_found : (b body rest block : List ℕ) (s : Section) → s.1 ≡ block → SplitsCounted b body rest → BeginsWithCid body s.0 block → SplitsSection b s rest
-section_found b body rest block s same h c =
-    let whole : body ≡ section_body s = c.1 ∙ ap (λ x. section_body (s.0, x)) (sym same) in
-    ((c.0, omega (arith, h.0, ap length whole)), h.1 ∙ ap (λ x. counted x ++ rest) whole)

@@ -56,12 +56,3 @@ front_of_digest b digest block h = (inl (refl, refl, refl, long), ap (λ x. 0x12
 
     split : b ≡ digest ++ block
     split = sym (take-append-drop 32 b) ∙ (λ i. sym h.0 i ++ sym h.1 i)
-
--- ---- neither
-
-pub no_byte : BeginsNoCid Truncated []
-no_byte = (λ c rest h. by c rest h.0 h.1, inl refl)
-  where
-    by : (c : CidParts) (rest : List ℕ) → AreCidParts c → [] ≡ cid_bytes c ++ rest → ⊥
-    by c rest (inl p) is = let clash = is ∙ front_0 c rest p.0 in absurd (cc clash)
-    by c rest (inr p) is = let clash = is ∙ front_1 c rest p.0 in absurd (cc clash)

@@ -1,5 +1,5 @@
 -- A file that is written section by section.
-use Rattle.std.proofs.Common.{◌≡◌, ℕ, suc, ◌+◌, ◌<◌, add-one, List, [], ◌∷◌, ◌++◌, length, drop, get_or, Bool, true, false, Result, Ok, Err, refl, sym, ap, ◌∙◌, subst, append_assoc, append-nil, Some, flat_map, IsErrAnd, drop-cons}
+use Rattle.std.proofs.Common.{◌≡◌, ℕ, suc, ◌+◌, ◌<◌, add-one, List, [], ◌∷◌, ◌++◌, length, drop, get_or, Bool, true, false, Result, Ok, Err, sym, ap, ◌∙◌, subst, append_assoc, append-nil, Some, flat_map, IsErrAnd, drop-cons}
 use Rattle.std.specs.List.{AllByRecursion}
 use Rattle.std.proofs.lemmas.Grind.{flat_map-append}
 use Rattle.ipld_tree.specs.Cid.{CidParts}
@@ -10,7 +10,7 @@ use Rattle.dagcbor_heads.proofs.Writing.{WroteAll_then, Stops-then, Writes_exit}
 use Rattle.files_car.specs.Writers.{UnsentWithoutMemory}
 use Rattle.ipld_links.specs.Reaching.{Stored}
 use Rattle.files_car.specs.Reached.{section_at, sections_at}
-use Rattle.files_car.specs.Car.{Section, header_bytes, section_bytes, car_bytes, IsHeader, IsSection, IsCar}
+use Rattle.files_car.specs.Car.{Section, header_bytes, section_bytes, car_bytes, IsHeader, IsSection}
 
 -- the bytes of some sections, and then of others
 joined : (roots : List (List ℕ)) (seen these rest : List Section) → (car_bytes roots seen ++ flat_map section_bytes these) ++ flat_map section_bytes rest ≡ car_bytes roots (seen ++ (these ++ rest))
@@ -42,15 +42,6 @@ pub record WrittenTo (roots : List (List ℕ)) (sections rest : List Section) (o
   pub valid : AllByRecursion IsSection seen
   pub wrote : WroteAll (Some (car_bytes roots seen)) old now
 
-pub written_begun : (roots : List (List ℕ)) (sections rest : List Section) (old now : Written) → rest ≡ sections → IsHeader roots → WroteAll (Some (header_bytes roots)) old now → WrittenTo roots sections rest old now
-written_begun roots sections rest old now same header wrote = record {
-  seen = [];
-  all = sym same;
-  header = header;
-  valid = tt;
-  wrote = subst (λ b. WroteAll (Some b) old now) (sym (append-nil (header_bytes roots))) wrote;
-}
-
 pub written_more : (roots : List (List ℕ)) (sections before these rest : List Section) (old mid now : Written) → before ≡ these ++ rest → WrittenTo roots sections before old mid → AllByRecursion IsSection these → WroteAll (Some (flat_map section_bytes these)) mid now
     → WrittenTo roots sections rest old now
 written_more roots sections before these rest old mid now is h own wrote = record {
@@ -62,17 +53,6 @@ written_more roots sections before these rest old mid now is h own wrote = recor
       let text : car_bytes roots h.seen ++ flat_map section_bytes these ≡ car_bytes roots (h.seen ++ these) = sym (append-nil (car_bytes roots h.seen ++ flat_map section_bytes these)) ∙ joined roots h.seen these [] ∙ ap (λ l. car_bytes roots (h.seen ++ l)) (append-nil these) in
       subst (λ b. WroteAll (Some b) old now) text (WroteAll_then (Some (car_bytes roots h.seen)) (Some (flat_map section_bytes these)) old mid now h.wrote wrote);
 }
-
-whole : {roots : List (List ℕ)} {sections : List Section} {old now : Written} → (h : WrittenTo roots sections [] old now) → h.seen ≡ sections
-whole {roots} {sections} {old} {now} h = sym (h.all ∙ append-nil h.seen)
-
-pub all_written : (roots : List (List ℕ)) (sections rest : List Section) (old now : Written) → rest ≡ [] → WrittenTo roots sections rest old now → WroteAll (Some (car_bytes roots sections)) old now
-all_written roots sections rest old now end h = let k = subst (λ r. WrittenTo roots sections r old now) end h in subst (λ ss. WroteAll (Some (car_bytes roots ss)) old now) (whole k) k.wrote
-
-pub is_car : (roots : List (List ℕ)) (sections rest : List Section) (old now : Written) → rest ≡ [] → WrittenTo roots sections rest old now → IsCar (car_bytes roots sections) roots sections
-is_car roots sections rest old now end h =
-    let k = subst (λ r. WrittenTo roots sections r old now) end h in
-    record { header = k.header; all = subst (AllByRecursion IsSection) (whole k) k.valid; is = refl }
 
 -- ---- refusals, at the exit of a `?`
 

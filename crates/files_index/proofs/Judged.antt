@@ -97,10 +97,6 @@ unordered_more es n d e some lt first second =
     let two : take (n + 1) es ≡ take n es ++ e ∷ [] = take_more es n e lt ∙ ap (λ y. take n es ++ y ∷ []) (sym second) in
     ap unordered (two ∙ ap (λ l. l ++ e ∷ []) one) ∙ unordered_pushed (take (n - 1) es) d e ∙ ap (λ l. unordered l ++ fallen d e) (sym one)
 
-pub unordered_short : (es : List EntryParts) → unordered (take 1 es) ≡ []
-unordered_short [] = refl
-unordered_short (e ∷ es) = refl
-
 pub if_ok : {A E : Type 0} {P Q : A → Type 0} (r : Result A E) → IfOk r P → ((x : A) → P x → Q x) → IfOk r Q
 if_ok (Ok x) h f = f x h
 if_ok (Err e) h f = tt

@@ -1,7 +1,6 @@
 -- Look-ups in an index.
 use Rattle.std.proofs.Common.{◌≡◌, ℕ, suc, ◌+◌, ◌-◌, ◌^◌, ◌<◌, ◌≤◌, min, true, false, cond, List, length, take, drop, Option, None, Some, option_and_then, IfSome, Result, Ok, Err, IfOk, ◌==◌, sym, ap, ◌∙◌, subst, refl, inl, inr, arith}
 use Rattle.std.proofs.lemmas.Bool.{lt-ltb, le-ltb, cases_lt, eq-eqb, ne_eqb}
-use Rattle.std.proofs.lemmas.List.{drop_all}
 use Rattle.std.specs.Int.{Width, w32, w64, byte_len, from_le_bytes}
 use Rattle.std.specs.Ordering.{nat_cmp, ordering_reverse}
 use Rattle.std.specs.declared.cmp.Ordering.{Ordering}
@@ -132,13 +131,6 @@ equal_reversed Greater is = cc is
 
 pub same_equal : {K : Type 0} {R : K → K → Ordering} → IsTotalOrder R → (x : K) → R x x ≡ Equal
 same_equal {K} {R} o x = equal_reversed (R x x) (o.antisymm x x)
-
--- the bytes at a place stay the same if the place saturates
-pub capped : (b : List ℕ) (place next : ℕ) → length b < 2 ^ 64 → next ≡ min place (2 ^ 64 - 1) → drop next b ≡ drop place b
-capped b place next below is = elim (cases_lt place (2 ^ 64)) [
-  | inl named ↦ let same : next ≡ place = omega arith in ap (λ p. drop p b) same
-  | inr far ↦ drop_all next b (omega arith) ∙ sym (drop_all place b (omega arith))
-]
 
 -- entries before the first place are below the digest, and from the second on they are not
 pub record Narrows (b : List ℕ) (bucket : Bucket) (digest : List ℕ) (low high : ℕ) : Type 0 where

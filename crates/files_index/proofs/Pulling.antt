@@ -1,9 +1,8 @@
 -- Bytes and numbers that are taken, one after the other.
-use Rattle.std.proofs.Common.{◌≡◌, ℕ, ◌+◌, ◌-◌, ◌<◌, ◌≤◌, List, [], ◌++◌, length, take, drop, Option, None, Some, IfSome, Bool, sym, ap, ◌∙◌, subst, arith, append_assoc, length-append, refl, nat_le, le-leb, Result, Ok, Err, ◌∷◌, if◌then◌else◌}
+use Rattle.std.proofs.Common.{◌≡◌, ℕ, ◌+◌, ◌-◌, ◌≤◌, List, [], ◌++◌, length, take, drop, Option, None, Some, IfSome, Bool, sym, ap, ◌∙◌, subst, arith, append_assoc, length-append, refl, nat_le, le-leb, Result, Ok, Err, ◌∷◌, if◌then◌else◌}
 use Rattle.std.proofs.lemmas.List.{take-append-le, drop-append-le, length-take, length-drop}
-use Rattle.std.proofs.lemmas.Bool.{lt-leb}
-use Rattle.std.proofs.Math.Seq.{take-append-add, take-length, take-append_seam, drop-append_seam}
-use Rattle.std.specs.Io.KnownBytes.{Consumes, IsAtEnd}
+use Rattle.std.proofs.Math.Seq.{take-append-add, take-append_seam, drop-append_seam}
+use Rattle.std.specs.Io.KnownBytes.{Consumes}
 use Rattle.std.specs.Int.{Width, w64, byte_len, from_le_bytes}
 use Rattle.files_index.specs.Index.{EntryParts}
 use Rattle.files_index.specs.Entries.{Taken, Lists, no_last, entry, entry_in, index_of, index_entries, IsRead}
@@ -21,10 +20,6 @@ consumed : (rest bs : List ℕ) (new : Option (List ℕ)) → Consumes (Some res
 consumed rest bs None h = absurd h
 consumed rest bs (Some more) h = (more, h, refl)
 
-pub pulled_none : (known : Option (List ℕ)) (room : List ℕ) → PulledSome known 0 room known
-pulled_none None room = tt
-pulled_none (Some b) room = (b, refl, refl)
-
 pub pulled_more : (known left new : Option (List ℕ)) (filled n k : ℕ) (room sub : List ℕ) → filled ≤ length room → n ≤ length sub → Consumes left new (take n sub) → PulledSome known filled room left → PulledSome known (filled + n) (put_mid filled k room sub) new
 pulled_more None left new filled n k room sub within fits took h = tt
 pulled_more (Some b) left new filled n k room sub within fits took h =
@@ -34,19 +29,6 @@ pulled_more (Some b) left new filled n k room sub within fits took h =
     ap (λ m. take m (take filled room ++ (sub ++ post_of filled k room))) (sym long) ∙ take-append-add (take filled room) (sub ++ post_of filled k room) n in
     let first : take n (sub ++ post_of filled k room) ≡ take n sub = take-append-le n sub (post_of filled k room) fits in
     (w.0, h.1 ∙ ap (λ l. take filled room ++ l) w.1 ∙ sym (append_assoc (take filled room) (take n sub) w.0) ∙ ap (λ l. l ++ w.0) (sym (both ∙ ap (λ l. take filled room ++ l) first)), w.2)
-
-pub pulled_stopped : {E : Type 0} (e : E) (known left new : Option (List ℕ)) (filled n : ℕ) (room sub after : List ℕ) → filled < length room → length after ≡ length room → n ≡ 0 → 0 < length sub → Consumes left new (take n sub) → (n ≡ 0 → 0 < length sub → IsAtEnd new) → PulledSome known filled room left → IfSome known (λ b. (nat_le (length after) (length b) ≡ Bool.false) × (e ≡ e))
-pulled_stopped e None left new filled n room sub after more same none some took end h = tt
-pulled_stopped e (Some b) left new filled n room sub after more same none some took end h =
-    let w = consumed h.0 (take n sub) new (subst (λ l. Consumes l new (take n sub)) h.2 took) in
-    let gone : w.0 ≡ [] = subst IsAtEnd w.2 (end none some) in
-    let empty : length h.0 ≡ 0 = ap length w.1 ∙ length-append (take n sub) w.0 ∙ omega (arith, length-take n sub, none, ap length gone) in
-    let long : length b ≡ length (take filled room) + length h.0 = ap length h.1 ∙ length-append (take filled room) h.0 in
-    (lt-leb (length after) (length b) (omega (arith, long, empty, more, same, length-take filled room)), refl)
-
-pub pulled_all : (known left : Option (List ℕ)) (filled : ℕ) (room : List ℕ) → filled ≡ length room → PulledSome known filled room left → IfSome known (λ b. (rest : List ℕ) × (b ≡ room ++ rest) × (left ≡ Some rest))
-pulled_all None left filled room is h = tt
-pulled_all (Some b) left filled room is h = (h.0, h.1 ∙ ap (λ l. l ++ h.0) (ap (λ n. take n room) is ∙ take-length room), h.2)
 
 -- the room holds the first bytes, and the others are left
 abbrev pub Pulled : Option (List ℕ) → List ℕ → Option (List ℕ) → Type 0

@@ -66,7 +66,3 @@ pub record AreFindings (f : Format) (es : List EntryParts) (ps : List Placed) (i
   pub wrong : it.wrong.items ≡ wrong f es ps
   pub unordered : it.unordered.items ≡ unordered es
   pub unlisted : it.unlisted.items ≡ unlisted f es ps
-
--- the index is right: there are no findings on it
-abbrev pub IsRight : Format → List EntryParts → List Placed → Type 0
-IsRight f es ps = (wrong f es ps ≡ []) × (unordered es ≡ []) × (unlisted f es ps ≡ [])

@@ -1,17 +1,11 @@
 -- The parts at the front of bytes.
-use Rattle.std.proofs.Common.{◌≡◌, ◌⊎◌, inl, inr, Bool, true, false, ℕ, zero, suc, ◌+◌, ◌-◌, ◌*◌, ◌%◌, ◌^◌, ◌==◌, ◌<◌, ◌≤◌, List, [], ◌∷◌, length, length-drop, take, drop, nat_lt, if◌then◌else◌, Result, Ok, Err, refl, sym, ap, ◌∙◌, subst, arith}
+use Rattle.std.proofs.Common.{◌≡◌, ◌⊎◌, inl, inr, Bool, true, false, ℕ, zero, suc, ◌+◌, ◌-◌, ◌*◌, ◌%◌, ◌^◌, ◌==◌, ◌<◌, ◌≤◌, List, [], ◌∷◌, length, length-drop, take, drop, nat_lt, if◌then◌else◌, Ok, Err, refl, sym, ap, ◌∙◌, subst, arith}
 use Rattle.std.proofs.lemmas.Bool.{cases_lt}
 use Rattle.std.proofs.lemmas.Bool.Decides.{nat_tests}
 use Rattle.std.proofs.Math.Nat.{pow-le-pow_right, pow-succ'}
 use Rattle.files_unix_fs.specs.declared.error.UnixFsCause.{UnixFsCause}
 use Rattle.files_unix_fs.specs.declared.error.UnixFsCause.TheVariants.{Truncated, InvalidVarint, UnexpectedField}
 use Rattle.files_unix_fs.specs.Fields.{Front, after, Value, number, bytes, groups_of, varint_of, bytes_of, held_of, value_of, field_of}
-
-pub after_ok : {A B : Type 0} (r : Front A) (f : A → List ℕ → Result B UnixFsCause) (a : A) (rest : List ℕ) → r ≡ Ok (a, rest) → after r f ≡ f a rest
-after_ok r f a rest e = ap (λ r. after r f) e
-
-pub after_err : {A B : Type 0} (r : Front A) (f : A → List ℕ → Result B UnixFsCause) (cause : UnixFsCause) → r ≡ Err cause → after r f ≡ Err cause
-after_err r f cause e = ap (λ r. after r f) e
 
 -- ---- tests
 

@@ -14,10 +14,6 @@ abbrev pub prepended : List Asked → Option (List Asked) → Option (List Asked
 prepended before None = None
 prepended before (Some more) = Some (before ++ more)
 
-prepended-nothing : (more : Option (List Asked)) → prepended [] more ≡ more
-prepended-nothing None = refl
-prepended-nothing (Some more) = refl
-
 prepended-one : (before : List Asked) (w : Asked) (more : Option (List Asked)) → prepended before (followed_by w more) ≡ prepended (before ++ w ∷ []) more
 prepended-one before w None = refl
 prepended-one before w (Some more) = ap Some (sym (append_assoc before (w ∷ []) more))
@@ -26,9 +22,6 @@ pub record IsPairedTo (depth : ℕ) (block sizes : List ℕ) (before : List Aske
   pub row : HasRow links
   pub some : cids_of block ≡ [] → cids_of links ≡ []
   pub same : paired depth (cids_of block) (sizes_of sizes) ≡ prepended before (paired depth (cids_of links) (sizes_of rest))
-
-pub none_paired : (depth : ℕ) (block sizes : List ℕ) → HasRow block → IsPairedTo depth block sizes [] block sizes
-none_paired depth block sizes row = record { row = row; some = λ e. e; same = sym (prepended-nothing (paired depth (cids_of block) (sizes_of sizes))) }
 
 pub next_cid : (links following : List ℕ) (link : LinkParts) → HasRow links → ((row : _) → BeginsWithFields links row [] → (more : _) × BeginsWithFields following more [] × (links_in row ≡ link ∷ links_in more)) → HasRow following × (cids_of links ≡ cid_bytes link.hash ∷ cids_of following)
 next_cid links following link (row, h) next =

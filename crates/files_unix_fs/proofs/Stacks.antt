@@ -54,9 +54,6 @@ pub record SameWhole (row stack row_before stack_before : List Asked) : Type 0 w
   pub kept : (depth : ℕ) → AreBelow depth row_before → AreBelow depth row × ((more : List Asked) × (stack ≡ stack_before ++ more) × AreBelow depth more)
   pub same : (blocks : List ℕ → Option (List ℕ)) → joined (row_bytes blocks row) (stack_bytes blocks stack) ≡ joined (row_bytes blocks row_before) (stack_bytes blocks stack_before)
 
-pub none_moved : (row stack : List Asked) → SameWhole row stack row stack
-none_moved row stack = record { some = λ e. e; kept = λ depth h. (h, ([], sym (append-nil stack), tt)); same = λ blocks. refl }
-
 pub none_last : {A : Type 0} (row : List A) (w : A) → row ++ w ∷ [] ≡ [] → ⊥
 none_last [] w e = absurd (cc e)
 none_last (v ∷ row) w e = absurd (cc e)

@@ -7,9 +7,6 @@ use Rattle.ipld_tree.specs.Tree.{links_of}
 use Rattle.dag_pb.specs.Node.{HasNode, node_links}
 use Rattle.dag_pb.specs.declared.error.PbError.{PbError}
 use Rattle.ipld_links.specs.Blocks.{NamedBlock, HasBlock, HasLinks, IsReadCodec, IsBlockOf}
-use Rattle.sha2.specs.Sha256.{sha256}
-use Rattle.ipld_links.specs.Names.{IsBySha256}
-use Rattle.ipld_links.specs.Sound.{IsSound}
 use Rattle.ipld_links.specs.Verdicts.{IsVerdict}
 use Rattle.ipld_links.specs.declared.verdict.Verdict.TheVariants.{Block, Refused, Node, NoNode, NotRead, LinksNotRead}
 use Rattle.dagcbor_decode.proofs.Laws.{refused_no_block}
@@ -46,10 +43,6 @@ pub linked_read : (codec : ℕ) (b : List ℕ) (links : List (List ℕ)) → Has
 linked_read codec b links (inl h) = inl h.0
 linked_read codec b links (inr h) = inr h.0
 
-pub sound_linked : (s : NamedBlock) → IsSound s → IsReadCodec s.0.codec → IsBlockOf s.0.codec s.1
-sound_linked s h (inl c) = let k = h.read c in (links_of k.0, inl (c, (k.0, k.1, refl)))
-sound_linked s h (inr c) = let k = h.node c in (node_links k.0, inr (c, (k.0, k.1, refl)))
-
 pub item_of : (codec : ℕ) (b : List ℕ) → IsBlockOf codec b → codec ≡ 0x71 → HasBlock b
 item_of codec b (links, inl (c, (t, h, e))) d = (t, h)
 item_of codec b (links, inr (c, h)) d = absurd (omega (arith, c, d))
@@ -57,11 +50,3 @@ item_of codec b (links, inr (c, h)) d = absurd (omega (arith, c, d))
 pub node_of : (codec : ℕ) (b : List ℕ) → IsBlockOf codec b → codec ≡ 0x70 → HasNode b
 node_of codec b (links, inl (c, h)) d = absurd (omega (arith, c, d))
 node_of codec b (links, inr (c, (n, h, e))) d = (n, h)
-
-pub linked_sound : (s : NamedBlock) → IsBySha256 s.0 → s.0.digest ≡ sha256 s.1 → (IsReadCodec s.0.codec → IsBlockOf s.0.codec s.1) → IsSound s
-linked_sound s by digest read = record {
-  by_sha256 = by;
-  digest = digest;
-  read = λ dag. item_of s.0.codec s.1 (read (inl dag)) dag;
-  node = λ pb. node_of s.0.codec s.1 (read (inr pb)) pb;
-}

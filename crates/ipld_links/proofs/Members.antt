@@ -9,13 +9,7 @@ use Rattle.std.specs.BTreeSet as set
 use Rattle.std.proofs.lemmas.Cmp.{nat_cmp_total, nat_list_cmp_total}
 use Rattle.ipld_tree.specs.Cid.{CidParts, AreCidParts, cid_bytes, cid_cmp}
 use Rattle.ipld_tree.specs.CidHash.{same_cid, is_equal}
-use Rattle.ipld_tree.specs.Tree.{Tree}
-use Rattle.ipld_tree.specs.Spelling.{IsFront}
-use Rattle.ipld_tree.proofs.Fronts.{front_unique}
 use Rattle.dagcbor_items.specs.Walks.{forms}
-use Rattle.dagcbor_decode.specs.Blocks.{IsBlock}
-use Rattle.dagcbor_items.proofs.SliceReads.{whole_front}
-use Rattle.ipld_links.specs.Blocks.{HasBlock}
 use Rattle.ipld_links.specs.Sets.{Among, members, AddsCid, RemovesCid}
 use Rattle.ipld_links.specs.declared.cid_set.CidSet.{CidSet}
 
@@ -164,11 +158,3 @@ cid_removed c old new cut q = (
     back : (b : Bool) → is_at (cid_cmp c) q ≡ b → Among q (members old) × (q ≡ c → ⊥) → cond b false (set.contains cid_cmp old.cids q) ≡ true
     back true t m = absurd (m.1 (sym (at_same c q t)))
     back false t m = among_any q (members old) m.0
-
--- ---- a block
-
--- the first item of a block is the whole of it
-pub whole_block : (b rest : List ℕ) (t : Tree) → HasBlock b → IsFront b t rest → IsBlock b t
-whole_block b rest t has front =
-    let same = front_unique b rest [] t has.0 front (whole_front has.1.0) in
-    subst (IsBlock b) (sym same.0) has.1

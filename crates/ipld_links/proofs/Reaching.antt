@@ -328,10 +328,6 @@ pub known_inside : (o : Option Verdict) (stored : Stored) (name : CidParts) → 
 known_inside None stored name free i h = λ c is. subst (HasKnownLinks name.codec) (one_bytes stored name name.digest c (inr (free, i, refl)) is) h
 known_inside (Some v) stored name free i h = (name.digest, inr (free, i, refl), h)
 
-pub nothing_known : (stored : Stored) (name : CidParts) → stored name ≡ None → (IsInline name → ⊥) → KnowsLinks stored name
-nothing_known stored name free other b (inl s) = let clash : None ≡ Some b = sym free ∙ s in absurd (cc clash)
-nothing_known stored name free other b (inr s) = absurd (other s.1)
-
 -- a property of the names seen before holds of those seen now, if it holds of the new one
 pub all_seen : (P : CidParts → Type 0) (name : CidParts) (old new : Walk) → ((q : CidParts) → Among q old.seen.keys → P q) → P name → SeesAlso name old new → (q : CidParts) → Among q new.seen.keys → P q
 all_seen P name old new h is sees q m = elim ((sees q).0 m) [ inl o ↦ h q o | inr e ↦ subst P (sym e) is ]

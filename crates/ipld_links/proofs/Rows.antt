@@ -1,5 +1,5 @@
 -- The links of items in a row.
-use Rattle.std.proofs.Common.{◌≡◌, ◌≢◌, ◌↔◌, Bool, Option, None, Some, MatchOption, inl, inr, map, ℕ, ◌+◌, ◌<◌, ◌≤◌, List, [], ◌∷◌, ◌++◌, length, append_assoc, append-nil, refl, IsTrue, sym, ap, ◌∙◌, subst, arith}
+use Rattle.std.proofs.Common.{◌≡◌, ◌≢◌, ◌↔◌, Bool, Option, None, Some, MatchOption, inl, inr, ℕ, ◌+◌, ◌<◌, ◌≤◌, List, [], ◌∷◌, ◌++◌, length, append_assoc, append-nil, refl, IsTrue, sym, ap, ◌∙◌, subst, arith}
 use Rattle.ipld_tree.specs.Cid.{CidParts, cid_bytes}
 use Rattle.ipld_tree.specs.Tree.{Tree, links_of}
 use Rattle.ipld_tree.specs.Spelling.{spelling}
@@ -7,8 +7,7 @@ use Rattle.ipld_tree.proofs.Fronts.{front_unique}
 use Rattle.dagcbor_items.specs.Walks.{forms}
 use Rattle.dagcbor_decode.specs.Blocks.{IsBlock}
 use Rattle.dagcbor_items.proofs.SliceReads.{whole_front}
-use Rattle.dag_pb.specs.Node.{LinkParts, Field, BeginsWithFields, HasNode, node_links}
-use Rattle.dag_pb.specs.Reads.{links_in}
+use Rattle.dag_pb.specs.Node.{HasNode, node_links}
 use Rattle.dag_pb.proofs.Reading.{row_of_node, one_node_links}
 use Rattle.ipld_links.specs.Blocks.{HasBlock, HasLinks, IsBlockOf}
 use Rattle.ipld_links.specs.Rows.{HoldsFieldLinks, HoldsLinksAs}
@@ -78,17 +77,6 @@ all_so_far codec b found rest s none = sym (s.all ∙ ap (λ ls. forms found ++ 
 
 pub first_so_far : (codec : ℕ) (b : List ℕ) (found : List CidParts) (rest : List ℕ) (s : LinksSoFar codec b found rest) → s.more ≡ [] → HasLinks codec b (forms found)
 first_so_far codec b found rest s none = subst (HasLinks codec b) (sym (all_so_far codec b found rest s none)) s.block
-
--- ---- fields
-
-pub field_link_found : (b following : List ℕ) (links : List (List ℕ)) (l : LinkParts) → ((row : List Field) → BeginsWithFields b row [] → (more : List Field) × BeginsWithFields following more [] × (links_in row ≡ l ∷ links_in more)) → HoldsFieldLinks b links
-    → (more : List (List ℕ)) × (links ≡ cid_bytes l.hash ∷ more) × HoldsFieldLinks following more
-field_link_found b following links l found h =
-    let k = found h.fields h.row in
-    (map (λ l. cid_bytes l.hash) (links_in k.0), h.are ∙ ap (map (λ l. cid_bytes l.hash)) k.2, record { fields = k.0; row = k.1; are = refl })
-
-pub no_field_link : (b : List ℕ) (links : List (List ℕ)) → ((row : List Field) → BeginsWithFields b row [] → links_in row ≡ []) → HoldsFieldLinks b links → links ≡ []
-no_field_link b links none h = h.are ∙ ap (map (λ l. cid_bytes l.hash)) (none h.fields h.row)
 
 -- ---- by the codec
 

@@ -43,10 +43,6 @@ slash_dropped path s more is none empty = ap segments is ∙ ap without_empty (p
 pub last_segment : (s : List ℕ) → HasNoSlash s → 0 < length s → segments s ≡ s ∷ []
 last_segment s none some = ap without_empty (last_piece s none) ∙ kept s [] some
 
-pub no_segment : (s : List ℕ) → length s ≡ 0 → segments s ≡ []
-no_segment [] none = refl
-no_segment (b ∷ s) none = absurd (omega arith)
-
 -- ---- tests of lengths
 
 pub not_empty : (s : List ℕ) (t : Bool) → t ≡ nat_eq (length s) 0 → t ≡ false → 0 < length s

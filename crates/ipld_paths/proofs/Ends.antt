@@ -96,9 +96,6 @@ link_told b old new (Err e) l h = λ t k cid is.
 abbrev pub Walks : List ℕ → List (List ℕ) → List ℕ → List (List ℕ) → Type 0
 Walks b path at left = (t : Tree) → BeginsWithTree b t → (u : Tree) × Walked t path left u at
 
-pub walk_begun : (b : List ℕ) (path : List (List ℕ)) → Walks b path b path
-walk_begun b path = λ t k. (t, record { passed = []; whole = refl; leads = refl; begins = k })
-
 pub walk_over : (b at : List ℕ) (path left : List (List ℕ)) → Walks b path at left → left ≡ [] → FollowsPath b path at left
 walk_over b at path left w none = λ t k. let x = w t k in (x.0, x.1, subst (λ y. EndsWay y x.0) (sym none) tt)
 

@@ -1,6 +1,5 @@
 -- The names on the way of a path.
 use Rattle.std.proofs.Common.{◌≡◌, ◌↔◌, ◌⊎◌, inl, inr, ℕ, ◌+◌, ◌<◌, List, [], ◌∷◌, ◌++◌, length, get_or, take, refl, sym, ap, ap₂, ◌∙◌, subst, append_assoc, add-one, take-suc}
-use Rattle.std.proofs.Math.Seq.{take-length}
 use Rattle.ipld_tree.specs.Cid.{CidParts}
 use Rattle.ipld_links.specs.Sets.{Among, members, AddsCid}
 use Rattle.ipld_links.specs.Reaching.{Stored, NoneTwice}
@@ -47,22 +46,12 @@ last_or_before (d ∷ done) (b ∷ before) following name q is =
       | inr less ↦ inr (less.0, ap₂ (λ x xs. x ∷ xs) first less.1)
     ]
 
-nothing_split : (before following : List CidParts) (q : CidParts) → [] ≡ before ++ q ∷ following → ⊥
-nothing_split [] following q is = cc is
-nothing_split (b ∷ before) following q is = cc is
-
 once_push : {X : Type 0} (xs : List X) (y : X) → NoneTwice xs → (Among y xs → ⊥) → NoneTwice (xs ++ y ∷ [])
 once_push [] y h none = (λ m. m, tt)
 once_push (x ∷ xs) y h none = (
   λ m. elim (among_push x xs y m) [ inl n ↦ h.0 n | inr e ↦ none (inl (sym e)) ],
   once_push xs y h.1 (λ m. none (inr m)),
 )
-
-pub none_gathered : (seen : CidSet) → members seen ≡ [] → Gathered [] [] seen
-none_gathered seen none = record {
-  all = record { lists = record { all = λ q. (λ m. m, λ m. m); once = tt }; order = λ before following q is. absurd (nothing_split before following q is) };
-  known = λ q. (λ m. subst (Among q) none m, λ m. absurd m);
-}
 
 pub gathered_before : (done once : List CidParts) (seen : CidSet) (name : CidParts) → Among name (members seen) → Gathered done once seen → Gathered (done ++ name ∷ []) once seen
 gathered_before done once seen name m h =
@@ -112,6 +101,3 @@ gathered_new done once after seen now name fresh adds is h = subst (λ ns. Gathe
 
 pub next_taken : (names : List CidParts) (i : ℕ) (name : CidParts) → i < length names → name ≡ get_or names i name → take i names ++ name ∷ [] ≡ take (i + 1) names
 next_taken names i name within is = ap (λ y. take i names ++ y ∷ []) is ∙ sym (take-suc names i name within) ∙ ap (λ n. take n names) (sym (add-one i))
-
-pub all_gathered : (names once : List CidParts) (i : ℕ) (seen : CidSet) → i ≡ length names → Gathered (take i names) once seen → AreOnceEach names once
-all_gathered names once i seen all h = subst (λ ns. AreOnceEach ns once) (ap (λ n. take n names) all ∙ take-length names) h.all

@@ -1,10 +1,7 @@
 -- The item at which a path ended.
-use Rattle.std.proofs.Common.{◌≡◌, inl, inr, ℕ, zero, suc, ◌+◌, ◌≤◌, List, ◌++◌, length, take, sym, ap, ◌∙◌, subst, arith, append_assoc, length-append, Option, None, Some}
-use Rattle.std.specs.List.{IsSplitAt}
-use Rattle.std.proofs.lemmas.List.{take-append-drop}
+use Rattle.std.proofs.Common.{◌≡◌, inl, inr, ℕ, zero, suc, ◌+◌, List, length, sym, ◌∙◌, subst, Option, None, Some}
 use Rattle.ipld_tree.specs.Cid.{CidParts}
 use Rattle.ipld_tree.specs.Tree.{Tree}
-use Rattle.ipld_tree.proofs.Unique.{split_at_length}
 use Rattle.dagcbor_decode.specs.Blocks.{IsBlock}
 use Rattle.dagcbor_decode.specs.declared.kind.Kind.{Kind}
 use Rattle.ipld_paths.specs.Paths.{segments}
@@ -71,23 +68,6 @@ none_under stored name none not b (inr h) = not h.1
 
 pub read_unique : (stored : Stored) (name : CidParts) (x y : List ℕ) → IsReadUnder stored name x → IsReadUnder stored name y → x ≡ y
 read_unique stored name x y h k = read_as_one name k.0 x y (subst (λ z. IsReadAs name z x) (bytes_unique stored name h.0 k.0 h.1 k.1) h.3) k.3
-
--- ---- parts of a block
-
--- it is within the bytes
-pub ends_within : (b part : List ℕ) (place end : ℕ) → StandAt b place part → end ≡ place + length part → end ≤ length b
-ends_within b part place end h e = omega (arith, e, h.3, ap length h.2, length-append h.0 (part ++ h.1), length-append part h.1)
-
--- the bytes between the places
-pub between : (b part front following before mid : List ℕ) (place end : ℕ) → StandAt b place part → end ≡ place + length part → b ≡ front ++ following → length front ≡ end → front ≡ before ++ mid → length before ≡ place → mid ≡ part
-between b part front following before mid place end h e is long cut short =
-    let whole : h.0 ++ (part ++ h.1) ≡ before ++ (mid ++ following) = sym h.2 ∙ is ∙ ap (λ x. x ++ following) cut ∙ append_assoc before mid following in
-    let first = split_at_length h.0 before (part ++ h.1) (mid ++ following) (omega (arith, h.3, short)) whole in
-    let same : length part ≡ length mid = omega (arith, e, long, ap length cut, length-append before mid, short) in
-    sym (split_at_length part mid h.1 following same first.1).0
-
-pub split_whole : {s front back : List ℕ} (n : ℕ) → IsSplitAt s n front back → s ≡ front ++ back
-split_whole {s} {front} {back} n cut = sym (ap (λ x. x ++ back) cut.1 ∙ ap (λ x. take n s ++ x) cut.2 ∙ take-append-drop n s)
 
 -- ---- the bytes of an item
 

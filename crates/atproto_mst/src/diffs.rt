@@ -61,29 +61,29 @@ pub fn diff_entries(
     ensures memory { IfErr result (λ _. entries old.now ≢ entries new.now) }
 {
     let mut found = Vec::new(alloc);
-    let mut at = 0;
-    let mut next = 0;
-    while at < old.len() && next < new.len() {
-        let one = &old[at];
-        let other = &new[next];
-        match one.key.as_slice().cmp(other.key.as_slice()) {
+    let mut i = 0;
+    let mut j = 0;
+    while i < old.len() && j < new.len() {
+        let before = &old[i];
+        let after = &new[j];
+        match before.key.as_slice().cmp(after.key.as_slice()) {
             Ordering::Less => {
-                add_change(alloc, &one.key, Some(one.value), None, &mut found)?;
-                at += 1;
+                add_change(alloc, &before.key, Some(before.value), None, &mut found)?;
+                i += 1;
             }
             Ordering::Equal => {
-                add_if_changed(alloc, one, other, &mut found)?;
-                at += 1;
-                next += 1;
+                add_if_changed(alloc, before, after, &mut found)?;
+                i += 1;
+                j += 1;
             }
             Ordering::Greater => {
-                add_change(alloc, &other.key, None, Some(other.value), &mut found)?;
-                next += 1;
+                add_change(alloc, &after.key, None, Some(after.value), &mut found)?;
+                j += 1;
             }
         }
     }
-    add_removed(alloc, &old[at..], &mut found)?;
-    add_added(alloc, &new[next..], &mut found)?;
+    add_removed(alloc, &old[i..], &mut found)?;
+    add_added(alloc, &new[j..], &mut found)?;
     Ok(found)
 }
 
@@ -107,18 +107,18 @@ fn add_change(
 /// Appends the change between two entries of the same key, if their records differ.
 fn add_if_changed(
     alloc: Global,
-    one: &MstEntry,
-    other: &MstEntry,
+    before: &MstEntry,
+    after: &MstEntry,
     found: &mut Vec<Change>,
 ) -> Result<(), AllocError>
     ensures added { OnOk result (changes found.new.items ≡ changes found.old.items
-        ++ changes_of_key one.now.key.items (Some one.now.value) (Some other.now.value)) }
-    ensures memory { IfErr result (λ _. one.now.value ≢ other.now.value) }
+        ++ changes_of_key before.now.key.items (Some before.now.value) (Some after.now.value)) }
+    ensures memory { IfErr result (λ _. before.now.value ≢ after.now.value) }
 {
-    if one.value == other.value {
+    if before.value == after.value {
         return Ok(());
     }
-    add_change(alloc, &one.key, Some(one.value), Some(other.value), found)
+    add_change(alloc, &before.key, Some(before.value), Some(after.value), found)
 }
 
 /// Appends the changes of entries that only the first list has.

@@ -104,15 +104,13 @@ fn is_header(bytes: &[u8]) -> bool
     let Some((front, list)) = bytes.split_at_checked(7) else {
         return false;
     };
-    let before = [0xa2, 0x65, 0x72, 0x6f, 0x6f, 0x74, 0x73];
-    if front != before.as_slice() {
+    if front != b"\xa2\x65roots".as_slice() {
         return false;
     }
     let Some(version) = after_link_list(list) else {
         return false;
     };
-    let wanted = [0x67, 0x76, 0x65, 0x72, 0x73, 0x69, 0x6f, 0x6e, 0x01];
-    version == wanted.as_slice()
+    version == b"\x67version\x01".as_slice()
 }
 
 /// Returns the bytes after the list of links at the front.

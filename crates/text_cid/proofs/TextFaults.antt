@@ -47,16 +47,16 @@ no_bytes_in_groups w symbols text faults.TrailingBits base h b is =
     h.2 (fronts.1 ∙ ap (λ n. replicate n 0) same_fill)
 no_bytes_in_groups w symbols text _ base h b is = absurd h
 
-no_bytes_in_58 : (text : List ℕ) (e : CidTextError) → Is58Fault e text → (b : List ℕ) → text ≡ text_in bases.Bitcoin58 b → ⊥
+no_bytes_in_58 : (text : List ℕ) (e : CidTextError) → Is58Fault e text → (b : List ℕ) → text ≡ text_in bases.Base58Btc b → ⊥
 no_bytes_in_58 text faults.InvalidCharacter h b is = no_other_in_58 b text h.0.0 h.0.1 h.0.2 is
 no_bytes_in_58 text faults.LeadingZero h b is = no_leading_zero b h.0 (sym h.1 ∙ is)
 no_bytes_in_58 text _ h b is = absurd h
 
 no_bytes_in : (base : Base) (text : List ℕ) (e : CidTextError) → IsBaseFault base e text → (b : List ℕ) → text ≡ text_in base b → ⊥
-no_bytes_in bases.Lower16 text e = no_bytes_in_groups 4 lower_16 text e base_lower_16
-no_bytes_in bases.Lower32 text e = no_bytes_in_groups 5 lower_32 text e base_lower_32
-no_bytes_in bases.Upper32 text e = no_bytes_in_groups 5 upper_32 text e base_upper_32
-no_bytes_in bases.Bitcoin58 text e = no_bytes_in_58 text e
+no_bytes_in bases.Base16Lower text e = no_bytes_in_groups 4 lower_16 text e base_lower_16
+no_bytes_in bases.Base32Lower text e = no_bytes_in_groups 5 lower_32 text e base_lower_32
+no_bytes_in bases.Base32Upper text e = no_bytes_in_groups 5 upper_32 text e base_upper_32
+no_bytes_in bases.Base58Btc text e = no_bytes_in_58 text e
 
 -- ---- one fault of a base
 
@@ -94,10 +94,10 @@ one_in_58 text faults.LeadingZero _ h k = absurd k
 one_in_58 text _ f h k = absurd h
 
 one_in : (base : Base) (text : List ℕ) (e f : CidTextError) → IsBaseFault base e text → IsBaseFault base f text → e ≡ f
-one_in bases.Lower16 text e f = one_in_groups 4 lower_16 text e f base_lower_16
-one_in bases.Lower32 text e f = one_in_groups 5 lower_32 text e f base_lower_32
-one_in bases.Upper32 text e f = one_in_groups 5 upper_32 text e f base_upper_32
-one_in bases.Bitcoin58 text e f = one_in_58 text e f
+one_in bases.Base16Lower text e f = one_in_groups 4 lower_16 text e f base_lower_16
+one_in bases.Base32Lower text e f = one_in_groups 5 lower_32 text e f base_lower_32
+one_in bases.Base32Upper text e f = one_in_groups 5 upper_32 text e f base_upper_32
+one_in bases.Base58Btc text e f = one_in_58 text e f
 
 -- ---- one fault of what is in a base
 

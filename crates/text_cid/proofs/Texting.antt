@@ -51,10 +51,10 @@ length-text_58 bytes h few =
     omega (arith, length-map (digits_of 58 (number_from_digits 256 bytes)) (slice_index symbols_58), length-digits_of-le 58 118 (number_from_digits 256 bytes) (omega arith) small)
 
 pub short_text : (base : Base) (c : CidParts) → AreCidParts c → AreBytes (cid_bytes c) → length (text_in base (cid_bytes c)) ≤ 172
-short_text bases.Lower16 c h bytes = omega (arith, length-text 4 lower_16 (cid_bytes c), cid_length (cid_bytes c) (c, h, refl))
-short_text bases.Lower32 c h bytes = omega (arith, length-text 5 lower_32 (cid_bytes c), cid_length (cid_bytes c) (c, h, refl))
-short_text bases.Upper32 c h bytes = omega (arith, length-text 5 upper_32 (cid_bytes c), cid_length (cid_bytes c) (c, h, refl))
-short_text bases.Bitcoin58 c h bytes = omega (arith, length-text_58 (cid_bytes c) bytes (cid_length (cid_bytes c) (c, h, refl)))
+short_text bases.Base16Lower c h bytes = omega (arith, length-text 4 lower_16 (cid_bytes c), cid_length (cid_bytes c) (c, h, refl))
+short_text bases.Base32Lower c h bytes = omega (arith, length-text 5 lower_32 (cid_bytes c), cid_length (cid_bytes c) (c, h, refl))
+short_text bases.Base32Upper c h bytes = omega (arith, length-text 5 upper_32 (cid_bytes c), cid_length (cid_bytes c) (c, h, refl))
+short_text bases.Base58Btc c h bytes = omega (arith, length-text_58 (cid_bytes c) bytes (cid_length (cid_bytes c) (c, h, refl)))
 
 -- ---- the first byte and the first character
 
@@ -103,24 +103,24 @@ begins_with_q c bytes (inl h) is = by (cid_bytes c) (form_0 c h.0) bytes
         )
 
 pub no_q : (base : Base) → prefix_of base ≢ 81
-no_q bases.Lower16 e = omega (arith, e)
+no_q bases.Base16Lower e = omega (arith, e)
 no_q _ e = omega (arith, e)
 
 pub same_base : (b d : Base) → prefix_of b ≡ prefix_of d → b ≡ d
-same_base bases.Lower16 bases.Lower16 e = refl
-same_base bases.Lower32 bases.Lower32 e = refl
-same_base bases.Upper32 bases.Upper32 e = refl
-same_base bases.Bitcoin58 bases.Bitcoin58 e = refl
+same_base bases.Base16Lower bases.Base16Lower e = refl
+same_base bases.Base32Lower bases.Base32Lower e = refl
+same_base bases.Base32Upper bases.Base32Upper e = refl
+same_base bases.Base58Btc bases.Base58Btc e = refl
 same_base _ _ e = absurd (omega (arith, e))
 
 -- ---- one CID a text
 
 -- the same text spells the same bytes, if in base58btc the first byte is not zero
 pub same_bytes_in : (base : Base) (text a b : List ℕ) → IsInBytes base text a → IsInBytes base text b → a ≡ b
-same_bytes_in bases.Lower16 text a b h k = same_bytes_from_groups 4 lower_16 a b base_lower_16 h.are_bytes k.are_bytes (sym h.is ∙ k.is)
-same_bytes_in bases.Lower32 text a b h k = same_bytes_from_groups 5 lower_32 a b base_lower_32 h.are_bytes k.are_bytes (sym h.is ∙ k.is)
-same_bytes_in bases.Upper32 text a b h k = same_bytes_from_groups 5 upper_32 a b base_upper_32 h.are_bytes k.are_bytes (sym h.is ∙ k.is)
-same_bytes_in bases.Bitcoin58 text a b h k = same_bytes_from_58 a b h.are_bytes k.are_bytes (h.first refl) (k.first refl) (sym h.is ∙ k.is)
+same_bytes_in bases.Base16Lower text a b h k = same_bytes_from_groups 4 lower_16 a b base_lower_16 h.are_bytes k.are_bytes (sym h.is ∙ k.is)
+same_bytes_in bases.Base32Lower text a b h k = same_bytes_from_groups 5 lower_32 a b base_lower_32 h.are_bytes k.are_bytes (sym h.is ∙ k.is)
+same_bytes_in bases.Base32Upper text a b h k = same_bytes_from_groups 5 upper_32 a b base_upper_32 h.are_bytes k.are_bytes (sym h.is ∙ k.is)
+same_bytes_in bases.Base58Btc text a b h k = same_bytes_from_58 a b h.are_bytes k.are_bytes (h.first refl) (k.first refl) (sym h.is ∙ k.is)
 
 pub in_bytes_of_cid : {base : Base} {text : List ℕ} {c : CidParts} → IsTextIn base text c → IsInBytes base text (cid_bytes c)
 in_bytes_of_cid {base} {text} {c} h = record { are_bytes = h.are_bytes; first = λ _. cid_above_zero c h.valid; is = h.is }
@@ -143,7 +143,7 @@ pub one_cid : (text : List ℕ) (c d : CidParts) → IsTextOf text c → IsTextO
 one_cid text c d h k = by h.told k.told
   where
     by : IsTold text c → IsTold text d → c ≡ d
-    by (inl p) (inl q) = same_cid_in bases.Bitcoin58 text c d (text_of h p.1) (text_of k q.1)
+    by (inl p) (inl q) = same_cid_in bases.Base58Btc text c d (text_of h p.1) (text_of k q.1)
     by (inl p) (inr q) = absurd (q_has_no_prefix q.1.0 text _ c h p.0 p.1 q.1.1)
     by (inr p) (inl q) = absurd (q_has_no_prefix p.1.0 text _ d k q.0 q.1 p.1.1)
     by (inr p) (inr q) =
@@ -155,9 +155,9 @@ one_cid text c d h k = by h.told k.told
 -- ---- reading
 
 fault_told : (base : Base) (text rest : List ℕ) (e : CidTextError) → IsInBase text base rest → IsBytesFault base e rest → IsTextFault e text
-fault_told bases.Lower16 text rest faults.UnknownBase is h = absurd h.1
+fault_told bases.Base16Lower text rest faults.UnknownBase is h = absurd h.1
 fault_told _ text rest faults.UnknownBase is h = absurd h.1
-fault_told bases.Lower16 text rest faults.InvalidVersion is h = absurd h.1
+fault_told bases.Base16Lower text rest faults.InvalidVersion is h = absurd h.1
 fault_told _ text rest faults.InvalidVersion is h = absurd h.1
 fault_told base text rest _ is h = (base, rest, is, h)
 
@@ -192,27 +192,27 @@ read_prefixed base text rest (Err f) (Err g) e r v =
     )
 
 -- a text that begins with Q is of version 0
-pub only_version_0 : (text rest : List ℕ) (c : CidParts) → text ≡ 81 ∷ rest → IsTextOf text c → (c.version ≡ 0) × IsTextIn bases.Bitcoin58 text c
+pub only_version_0 : (text rest : List ℕ) (c : CidParts) → text ≡ 81 ∷ rest → IsTextOf text c → (c.version ≡ 0) × IsTextIn bases.Base58Btc text c
 only_version_0 text rest c e h = by h.told
   where
-    by : IsTold text c → (c.version ≡ 0) × IsTextIn bases.Bitcoin58 text c
+    by : IsTold text c → (c.version ≡ 0) × IsTextIn bases.Base58Btc text c
     by (inl p) = (p.0, text_of h p.1)
     by (inr p) =
         let both : 81 ∷ rest ≡ prefix_of p.1.0 ∷ text_in p.1.0 (cid_bytes c) = sym e ∙ p.1.1 in
         let first : 81 ≡ prefix_of p.1.0 = cc both in
         absurd (no_q p.1.0 (sym first))
 
-pub read_unprefixed : (text rest : List ℕ) (read result : Result CidParts CidTextError) → text ≡ 81 ∷ rest → ReadsCidIn bases.Bitcoin58 text read → IsOfVersion 0 read result → ReadsCidText text result
+pub read_unprefixed : (text rest : List ℕ) (read result : Result CidParts CidTextError) → text ≡ 81 ∷ rest → ReadsCidIn bases.Base58Btc text read → IsOfVersion 0 read result → ReadsCidText text result
 read_unprefixed text rest (Ok c) (Ok d) e r v = subst (IsTextOf text) (sym v.0) (record { valid = r.valid; are_bytes = r.are_bytes; told = inl (v.1, r.is) })
-read_unprefixed text rest (Ok c) (Err f) e r v = (none, subst (λ x. IsTextFault x text) (sym v.0) (bases.Bitcoin58, text, inr (refl, refl, (rest, e)), (c, r, not_told r none)))
+read_unprefixed text rest (Ok c) (Err f) e r v = (none, subst (λ x. IsTextFault x text) (sym v.0) (bases.Base58Btc, text, inr (refl, refl, (rest, e)), (c, r, not_told r none)))
   where
     none : (d : CidParts) → IsTextOf text d → ⊥
-    none d h = let k = only_version_0 text rest d e h in v.1 (ap (λ (x : CidParts). x.version) (same_cid_in bases.Bitcoin58 text c d r k.1) ∙ k.0)
+    none d h = let k = only_version_0 text rest d e h in v.1 (ap (λ (x : CidParts). x.version) (same_cid_in bases.Base58Btc text c d r k.1) ∙ k.0)
 read_unprefixed text rest (Err f) (Ok d) e r v = absurd (cc v)
 read_unprefixed text rest (Err f) (Err g) e r v =
     let same : f ≡ g = cc v in (
       λ d h. r.0 d (only_version_0 text rest d e h).1,
-      subst (λ x. IsTextFault x text) same (fault_told bases.Bitcoin58 text text f (inr (refl, refl, (rest, e))) r.1),
+      subst (λ x. IsTextFault x text) same (fault_told bases.Base58Btc text text f (inr (refl, refl, (rest, e))) r.1),
     )
 
 pub no_base : (text : List ℕ) → ((base : Base) (rest : List ℕ) → text ≢ prefix_of base ∷ rest) → (BeginsWithQ text → ⊥) → ((c : CidParts) → IsTextOf text c → ⊥) × IsTextFault faults.UnknownBase text
@@ -229,10 +229,10 @@ pub other_character : (text rest : List ℕ) (x : ℕ) → text ≡ x ∷ rest �
 other_character text rest x e f b u z q = no_base text by (λ h. let both : x ∷ rest ≡ 81 ∷ h.0 = sym e ∙ h.1 in q (cc both))
   where
     by : (base : Base) (more : List ℕ) → text ≢ prefix_of base ∷ more
-    by bases.Lower16 more k = let both : x ∷ rest ≡ 102 ∷ more = sym e ∙ k in f (cc both)
-    by bases.Lower32 more k = let both : x ∷ rest ≡ 98 ∷ more = sym e ∙ k in b (cc both)
-    by bases.Upper32 more k = let both : x ∷ rest ≡ 66 ∷ more = sym e ∙ k in u (cc both)
-    by bases.Bitcoin58 more k = let both : x ∷ rest ≡ 122 ∷ more = sym e ∙ k in z (cc both)
+    by bases.Base16Lower more k = let both : x ∷ rest ≡ 102 ∷ more = sym e ∙ k in f (cc both)
+    by bases.Base32Lower more k = let both : x ∷ rest ≡ 98 ∷ more = sym e ∙ k in b (cc both)
+    by bases.Base32Upper more k = let both : x ∷ rest ≡ 66 ∷ more = sym e ∙ k in u (cc both)
+    by bases.Base58Btc more k = let both : x ∷ rest ≡ 122 ∷ more = sym e ∙ k in z (cc both)
 
 -- a text that is too long
 pub too_long : (base : Base) (text : List ℕ) → 172 < length text → ((c : CidParts) → IsTextIn base text c → ⊥) × (172 < length text)
@@ -245,7 +245,7 @@ written_0 c text h bytes v e = record { valid = h; are_bytes = bytes; told = inl
 
 pub written_1 : (c : CidParts) (text : List ℕ) → AreCidParts c → AreBytes (cid_bytes c) → c.version ≢ 0 → text ≡ 98 ∷ text_in_groups 5 lower_32 (cid_bytes c) → IsTextOf text c
 written_1 c text (inl h) bytes v e = absurd (v h.0)
-written_1 c text (inr h) bytes v e = record { valid = inr h; are_bytes = bytes; told = inr (h.0, (bases.Lower32, e)) }
+written_1 c text (inr h) bytes v e = record { valid = inr h; are_bytes = bytes; told = inr (h.0, (bases.Base32Lower, e)) }
 
 -- the text of each version
 pub text_0 : (c : CidParts) → c.version ≡ 0 → cid_text c ≡ text_in_58 (cid_bytes c)
@@ -266,28 +266,28 @@ read_back text c (Err e) h k = absurd (k.0 c h)
 
 -- ---- one base
 
-pub read_lower_16 : (text : List ℕ) (r : Result (ArrayVec ℕ) CidTextError) → length text ≤ 172 → ReadsGroups 4 lower_16 text r → ReadsIn bases.Lower16 text r
+pub read_lower_16 : (text : List ℕ) (r : Result (ArrayVec ℕ) CidTextError) → length text ≤ 172 → ReadsGroups 4 lower_16 text r → ReadsIn bases.Base16Lower text r
 read_lower_16 text (Ok v) few h = (few, record { are_bytes = h.0; first = λ e. cc e; is = h.1 })
 read_lower_16 text (Err faults.UnknownBase) few h = absurd h.1
 read_lower_16 text (Err faults.TooLong) few h = absurd h.1
 read_lower_16 text (Err (faults.InvalidCid f)) few h = absurd h.1
 read_lower_16 text (Err _) few h = (λ c k. h.0 (cid_bytes c) k.is, (few, h.1))
 
-pub read_lower_32 : (text : List ℕ) (r : Result (ArrayVec ℕ) CidTextError) → length text ≤ 172 → ReadsGroups 5 lower_32 text r → ReadsIn bases.Lower32 text r
+pub read_lower_32 : (text : List ℕ) (r : Result (ArrayVec ℕ) CidTextError) → length text ≤ 172 → ReadsGroups 5 lower_32 text r → ReadsIn bases.Base32Lower text r
 read_lower_32 text (Ok v) few h = (few, record { are_bytes = h.0; first = λ e. cc e; is = h.1 })
 read_lower_32 text (Err faults.UnknownBase) few h = absurd h.1
 read_lower_32 text (Err faults.TooLong) few h = absurd h.1
 read_lower_32 text (Err (faults.InvalidCid f)) few h = absurd h.1
 read_lower_32 text (Err _) few h = (λ c k. h.0 (cid_bytes c) k.is, (few, h.1))
 
-pub read_upper_32 : (text : List ℕ) (r : Result (ArrayVec ℕ) CidTextError) → length text ≤ 172 → ReadsGroups 5 upper_32 text r → ReadsIn bases.Upper32 text r
+pub read_upper_32 : (text : List ℕ) (r : Result (ArrayVec ℕ) CidTextError) → length text ≤ 172 → ReadsGroups 5 upper_32 text r → ReadsIn bases.Base32Upper text r
 read_upper_32 text (Ok v) few h = (few, record { are_bytes = h.0; first = λ e. cc e; is = h.1 })
 read_upper_32 text (Err faults.UnknownBase) few h = absurd h.1
 read_upper_32 text (Err faults.TooLong) few h = absurd h.1
 read_upper_32 text (Err (faults.InvalidCid f)) few h = absurd h.1
 read_upper_32 text (Err _) few h = (λ c k. h.0 (cid_bytes c) k.is, (few, h.1))
 
-pub read_bitcoin_58 : (text : List ℕ) (r : Result (ArrayVec ℕ) CidTextError) → length text ≤ 172 → Reads58 text r → ReadsIn bases.Bitcoin58 text r
+pub read_bitcoin_58 : (text : List ℕ) (r : Result (ArrayVec ℕ) CidTextError) → length text ≤ 172 → Reads58 text r → ReadsIn bases.Base58Btc text r
 read_bitcoin_58 text (Ok v) few h = (few, record { are_bytes = h.0; first = λ e. h.1; is = h.2 })
 read_bitcoin_58 text (Err faults.TooLong) few h = absurd h.1
 read_bitcoin_58 text (Err (faults.InvalidCid f)) few h = absurd h.1

@@ -26,17 +26,17 @@ upper_32 = codes "ABCDEFGHIJKLMNOPQRSTUVWXYZ234567"
 
 -- the first character of a text in the base (multibase table): f, b, B and z
 abbrev pub prefix_of : Base → ℕ
-prefix_of bases.Lower16 = 102
-prefix_of bases.Lower32 = 98
-prefix_of bases.Upper32 = 66
-prefix_of bases.Bitcoin58 = 122
+prefix_of bases.Base16Lower = 102
+prefix_of bases.Base32Lower = 98
+prefix_of bases.Base32Upper = 66
+prefix_of bases.Base58Btc = 122
 
 -- the bytes in the base, without a prefix
 abbrev pub text_in : Base → List ℕ → List ℕ
-text_in bases.Lower16 bytes = text_in_groups 4 lower_16 bytes
-text_in bases.Lower32 bytes = text_in_groups 5 lower_32 bytes
-text_in bases.Upper32 bytes = text_in_groups 5 upper_32 bytes
-text_in bases.Bitcoin58 bytes = text_in_58 bytes
+text_in bases.Base16Lower bytes = text_in_groups 4 lower_16 bytes
+text_in bases.Base32Lower bytes = text_in_groups 5 lower_32 bytes
+text_in bases.Base32Upper bytes = text_in_groups 5 upper_32 bytes
+text_in bases.Base58Btc bytes = text_in_58 bytes
 
 -- ---- CIDs
 
@@ -76,19 +76,19 @@ BeginsWithQ text = (rest : List ℕ) × (text ≡ 81 ∷ rest)
 -- the text is read in this base: after its prefix, or without one if it begins with Q
 abbrev pub IsInBase : List ℕ → Base → List ℕ → Type 0
 IsInBase text base rest = (text ≡ prefix_of base ∷ rest)
-    ⊎ ((base ≡ bases.Bitcoin58) × (text ≡ rest) × BeginsWithQ text)
+    ⊎ ((base ≡ bases.Base58Btc) × (text ≡ rest) × BeginsWithQ text)
 
 -- why a text does not spell bytes in a base
 abbrev pub IsBaseFault : Base → CidTextError → List ℕ → Type 0
-IsBaseFault bases.Lower16 e text = IsGroupFault 4 lower_16 e text
-IsBaseFault bases.Lower32 e text = IsGroupFault 5 lower_32 e text
-IsBaseFault bases.Upper32 e text = IsGroupFault 5 upper_32 e text
-IsBaseFault bases.Bitcoin58 e text = Is58Fault e text
+IsBaseFault bases.Base16Lower e text = IsGroupFault 4 lower_16 e text
+IsBaseFault bases.Base32Lower e text = IsGroupFault 5 lower_32 e text
+IsBaseFault bases.Base32Upper e text = IsGroupFault 5 upper_32 e text
+IsBaseFault bases.Base58Btc e text = Is58Fault e text
 
 -- the text spells these bytes in a base, and in base58btc the first byte is not zero
 pub record IsInBytes (base : Base) (text bytes : List ℕ) : Type 0 where
   pub are_bytes : AreBytes bytes
-  pub first : base ≡ bases.Bitcoin58 → BeginsAboveZero bytes
+  pub first : base ≡ bases.Base58Btc → BeginsAboveZero bytes
   pub is : text ≡ text_in base bytes
 
 -- why a text does not spell a CID's bytes in this base; if it is too long, that is the cause

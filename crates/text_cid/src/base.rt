@@ -4,11 +4,11 @@
 #[derive(Clone, Copy, Debug, PartialEq, Eq)]
 pub enum Base {
     /// Hexadecimal with lower-case letters, after `f`.
-    Lower16,
+    Base16Lower,
     /// Base32 with lower-case letters, after `b`.
-    Lower32,
+    Base32Lower,
     /// Base32 with upper-case letters, after `B`.
-    Upper32,
+    Base32Upper,
     /// Base58btc, after `z`.
-    Bitcoin58,
+    Base58Btc,
 }

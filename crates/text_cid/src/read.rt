@@ -21,10 +21,10 @@ fn read_in(base: Base, text: &[u8]) -> Result<ArrayVec<u8, READ_ROOM>, CidTextEr
         return Err(CidTextError::TooLong);
     }
     match base {
-        Base::Lower16 => read_groups(4, b"0123456789abcdef", text),
-        Base::Lower32 => read_groups(5, b"abcdefghijklmnopqrstuvwxyz234567", text),
-        Base::Upper32 => read_groups(5, b"ABCDEFGHIJKLMNOPQRSTUVWXYZ234567", text),
-        Base::Bitcoin58 => read_58(text),
+        Base::Base16Lower => read_groups(4, b"0123456789abcdef", text),
+        Base::Base32Lower => read_groups(5, b"abcdefghijklmnopqrstuvwxyz234567", text),
+        Base::Base32Upper => read_groups(5, b"ABCDEFGHIJKLMNOPQRSTUVWXYZ234567", text),
+        Base::Base58Btc => read_58(text),
     }
 }
 
@@ -61,11 +61,11 @@ pub fn cid_from_text(text: &[u8]) -> Result<Cid, CidTextError>
         return Err(CidTextError::UnknownBase);
     };
     match first {
-        b'f' => of_version(1, cid_in(Base::Lower16, rest)),
-        b'b' => of_version(1, cid_in(Base::Lower32, rest)),
-        b'B' => of_version(1, cid_in(Base::Upper32, rest)),
-        b'z' => of_version(1, cid_in(Base::Bitcoin58, rest)),
-        b'Q' => of_version(0, cid_in(Base::Bitcoin58, text)),
+        b'f' => of_version(1, cid_in(Base::Base16Lower, rest)),
+        b'b' => of_version(1, cid_in(Base::Base32Lower, rest)),
+        b'B' => of_version(1, cid_in(Base::Base32Upper, rest)),
+        b'z' => of_version(1, cid_in(Base::Base58Btc, rest)),
+        b'Q' => of_version(0, cid_in(Base::Base58Btc, text)),
         _ => Err(CidTextError::UnknownBase),
     }
 }

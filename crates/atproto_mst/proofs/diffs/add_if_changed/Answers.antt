@@ -5,4 +5,4 @@ use Rattle.atproto_mst.proofs.diffs.add_if_changed.Goals as goal
 
 pub returns-clause-memory : goal.returns-clause-memory
 returns-clause-memory c =
-    err_so (c.args.one.now.value ≢ c.args.other.now.value) c.add_change.result (other_name c.args.one.now.value c.args.other.now.value c.eq.result c.if-eq.false c.eq.ensures)
+    err_so (c.args.before.now.value ≢ c.args.after.now.value) c.add_change.result (other_name c.args.before.now.value c.args.after.now.value c.eq.result c.if-eq.false c.eq.ensures)

@@ -17,7 +17,7 @@ use Rattle.ipld_links.specs.Reaching.{Stored, stored_in, IsThere}
 use Rattle.ipld_links.proofs.Members.{at_same, same_at, among_push, push_among}
 use Rattle.program_parts.specs.Lines.{refused_line}
 use Rattle.program_parts.specs.Taking.{TookEach, FaultAfter, TellsNotBegun, TakesAll}
-use Rattle.program_parts.specs.Holding.{TellsFault, IsKeptSection, Stores, IsBest, StaysInPlace, Yields, PutsBack, KeepsNext}
+use Rattle.program_parts.specs.Holding.{TellsFault, IsKeptSection, Stores, IsBest, Replaces, Yields, KeepsNext}
 use Rattle.program_parts.proofs.Taking.{took_knows}
 use Rattle.program_parts.specs.declared.holding.Kept.{Kept}
 use Rattle.program_parts.specs.declared.holding.Kept.TheVariants as which
@@ -113,62 +113,52 @@ module _ (kept : Kept) (old new : Stored) (name : CidParts) (block : List ℕ) (
     ];
   }
 
--- the blocks stored if this is put back under the CID
-stored_put : (old new : BTreeMap CidParts (Vec ℕ Global)) (name : CidParts) (o : Option (Vec ℕ Global)) → PutsBack name o old new → (q : CidParts) → stored_in new q ≡ cond (is_at (cid_cmp name) q) (option_map (λ v. v.items) o) (stored_in old q)
-stored_put old new name o put q = ap (option_map (λ (w : Vec ℕ Global). w.items)) (put q) ∙ by (is_at (cid_cmp name) q)
-  where
-    by : (t : Bool) → option_map (λ (w : Vec ℕ Global). w.items) (cond t o (get cid_cmp old q)) ≡ cond t (option_map (λ v. v.items) o) (stored_in old q)
-    by true = refl
-    by false = refl
+-- ---- one more block
 
-module _ (kept : Kept) (old : BTreeMap CidParts (Vec ℕ Global)) (name : CidParts) (block : List ℕ) (v : Vec ℕ Global) (bytes : v.items ≡ block) (before : Option (Vec ℕ Global)) (was : before ≡ get cid_cmp old name) where
-  was_stored : stored_in old name ≡ option_map (λ v. v.items) before
-  was_stored = ap (option_map (λ (w : Vec ℕ Global). w.items)) (sym was)
-
+module _ (kept : Kept) (old : BTreeMap CidParts (Vec ℕ Global)) (name : CidParts) (block : List ℕ) (held : Option (List ℕ)) (stands : held ≡ stored_in old name) where
   -- if no bytes were held, no section had bytes that match the CID
-  none_named : (k : Kept) (sections : List Section) → Stores k sections (stored_in old) → before ≡ None → IsKeptSection k (name, block) → (t : Section) → Among t sections → IsVerified t → t.0 ≡ name → IsVerified (name, block)
+  none_named : (k : Kept) (sections : List Section) → Stores k sections (stored_in old) → held ≡ None → IsKeptSection k (name, block) → (t : Section) → Among t sections → IsVerified t → t.0 ≡ name → IsVerified (name, block)
   none_named which.Verified sections h free is t m good e = is.1
   none_named which.All sections h free is t m good e =
-      let none : stored_in old t.0 ≡ None = ap (stored_in old) e ∙ was_stored ∙ ap (option_map (λ (w : Vec ℕ Global). w.items)) free in
+      let none : stored_in old t.0 ≡ None = ap (stored_in old) e ∙ sym stands ∙ free in
       absurd (let clash : true ≡ false = sym (h.all t m tt) ∙ ap is_some none in cc clash)
 
   -- why no other section with this CID is better
-  best : (sections : List Section) → Stores kept sections (stored_in old) → StaysInPlace kept before (name, block) → (t : Section) → Among t sections → IsVerified t → t.0 ≡ name → IsVerified (name, block)
+  best : (sections : List Section) → Stores kept sections (stored_in old) → Replaces kept held (name, block) → (t : Section) → Among t sections → IsVerified t → t.0 ≡ name → IsVerified (name, block)
   best sections h (inl good) t m is e = good_named kept (name, block) good
-  best sections h (inr (inl same)) t m is e =
-      let stands : stored_in old t.0 ≡ Some block = ap (stored_in old) e ∙ was_stored ∙ ap (option_map (λ (w : Vec ℕ Global). w.items)) same.1 ∙ ap Some same.2 in
-      subst (λ q. IsVerified (q, block)) e (h.named t m is block stands)
-  best sections h (inr (inr free)) t m is e = none_named kept sections h free.0 free.1 t m is e
+  best sections h (inr free) t m is e = none_named kept sections h free.0 free.1 t m is e
 
-  is_kept : (sections : List Section) → Stores kept sections (stored_in old) → StaysInPlace kept before (name, block) → IsKeptSection kept (name, block)
-  is_kept sections h (inl good) = good_kept kept (name, block) good
-  is_kept sections h (inr (inl same)) = (h.some name block (was_stored ∙ ap (option_map (λ (w : Vec ℕ Global). w.items)) same.1 ∙ ap Some same.2)).1
-  is_kept sections h (inr (inr free)) = free.1
+  is_kept : Replaces kept held (name, block) → IsKeptSection kept (name, block)
+  is_kept (inl good) = good_kept kept (name, block) good
+  is_kept (inr free) = free.1
 
   -- the bytes held are as good
   as_named : (k : Kept) (sections : List Section) → Stores k sections (stored_in old) → (IsBest k (name, block) → ⊥) → IsVerified (name, block) → (b : List ℕ) → stored_in old name ≡ Some b → IsVerified (name, b)
   as_named which.All sections h other is b e = absurd (other is)
   as_named which.Verified sections h other is b e = (h.some name b e).1.1
 
-  pub kept_there : (new : BTreeMap CidParts (Vec ℕ Global)) → PutsBack name (Some v) old new → StaysInPlace kept before (name, block) → (sections : List Section) → Stores kept sections (stored_in old) → Stores kept (sections ++ (name, block) ∷ []) (stored_in new)
-  kept_there new put stays sections h = stores_put kept (stored_in old) (stored_in new) name block sections h
-      (subst (λ b. (q : CidParts) → stored_in new q ≡ cond (is_at (cid_cmp name) q) (Some b) (stored_in old q)) bytes (stored_put old new name (Some v) put))
-      (is_kept sections h stays) (best sections h stays)
-
-  pub kept_before : (mid new : BTreeMap CidParts (Vec ℕ Global)) → PutsBack name (Some v) old mid → PutsBack name before mid new → Yields kept before (name, block) → (sections : List Section) → Stores kept sections (stored_in old) → Stores kept (sections ++ (name, block) ∷ []) (stored_in new)
-  kept_before mid new put back yields sections h = stores_same kept (stored_in old) (stored_in new) name block sections h same
-      (λ is. ap is_some was_stored ∙ there before (yields.1 is)) (as_named kept sections h yields.0)
+  pub kept_there : (new : BTreeMap CidParts (Vec ℕ Global)) (v : Vec ℕ Global) → v.items ≡ block → ((q : CidParts) → get cid_cmp new q ≡ cond (is_at (cid_cmp name) q) (Some v) (get cid_cmp old q)) → Replaces kept held (name, block) → (sections : List Section) → Stores kept sections (stored_in old) → Stores kept (sections ++ (name, block) ∷ []) (stored_in new)
+  kept_there new v bytes put replaces sections h = stores_put kept (stored_in old) (stored_in new) name block sections h
+      (subst (λ b. (q : CidParts) → stored_in new q ≡ cond (is_at (cid_cmp name) q) (Some b) (stored_in old q)) bytes stored)
+      (is_kept replaces) (best sections h replaces)
     where
-      there : (o : Option (Vec ℕ Global)) → is_some o ≡ true → is_some (option_map (λ v. v.items) o) ≡ true
-      there (Some w) e = refl
-      there None e = absurd (cc e)
+      by : (q : CidParts) (t : Bool) → option_map (λ (w : Vec ℕ Global). w.items) (cond t (Some v) (get cid_cmp old q)) ≡ cond t (Some v.items) (stored_in old q)
+      by q true = refl
+      by q false = refl
 
-      by : (q : CidParts) (t : Bool) → is_at (cid_cmp name) q ≡ t → cond t before (cond t (Some v) (get cid_cmp old q)) ≡ get cid_cmp old q
-      by q true at = was ∙ ap (get cid_cmp old) (at_same name q at)
-      by q false at = refl
+      stored : (q : CidParts) → stored_in new q ≡ cond (is_at (cid_cmp name) q) (Some v.items) (stored_in old q)
+      stored q = ap (option_map (λ (w : Vec ℕ Global). w.items)) (put q) ∙ by q (is_at (cid_cmp name) q)
 
-      same : (q : CidParts) → stored_in new q ≡ stored_in old q
-      same q = ap (option_map (λ (w : Vec ℕ Global). w.items)) (back q ∙ ap (cond (is_at (cid_cmp name) q) before) (put q) ∙ by q (is_at (cid_cmp name) q) refl)
+  pub kept_before : Yields kept held (name, block) → (sections : List Section) → Stores kept sections (stored_in old) → Stores kept (sections ++ (name, block) ∷ []) (stored_in old)
+  kept_before yields sections h = stores_same kept (stored_in old) (stored_in old) name block sections h (λ q. refl) (there yields) (better yields)
+    where
+      there : Yields kept held (name, block) → IsKeptSection kept (name, block) → IsThere (stored_in old) name
+      there (inl same) is = ap is_some (sym stands ∙ same)
+      there (inr other) is = ap is_some (sym stands) ∙ other.1 is
+
+      better : Yields kept held (name, block) → IsVerified (name, block) → (b : List ℕ) → stored_in old name ≡ Some b → IsVerified (name, b)
+      better (inl same) is b e = let bytes : block ≡ b = cc (sym same ∙ stands ∙ e) in subst (λ w. IsVerified (name, w)) bytes is
+      better (inr other) is b e = as_named kept sections h other.0 is b e
 
 -- each section taken is one more
 pub held_each : (kept : Kept) (done more : List Section) (old new : Holding) → old.kept ≡ kept → Stores kept done (stored_in old.blocks) → TookEach KeepsNext old more new → Stores kept (done ++ more) (stored_in new.blocks)

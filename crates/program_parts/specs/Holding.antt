@@ -1,10 +1,9 @@
 -- The blocks of a CAR file, held in memory, and why bytes are not a CAR file.
-use Rattle.std.specs.Prelude.{◌≡◌, ◌⊎◌, ℕ, List, [], ◌∷◌, ◌++◌, true, cond, Option, None, Some, is_some, ⊤, Result, MatchResult, OnOk, Vec}
-use Rattle.std.specs.BTreeMap.{BTreeMap, get, is_at}
+use Rattle.std.specs.Prelude.{◌≡◌, ◌⊎◌, ℕ, List, [], ◌∷◌, ◌++◌, true, Option, None, Some, is_some, ⊤, Result, MatchResult, OnOk, Vec}
 use Rattle.std.specs.declared.alloc.Global.{Global}
 use Rattle.std.specs.declared.alloc.AllocError.{AllocError}
 use Rattle.std.specs.declared.convert.Infallible.{Infallible}
-use Rattle.ipld_tree.specs.Cid.{CidParts, cid_cmp}
+use Rattle.ipld_tree.specs.Cid.{CidParts}
 use Rattle.dagcbor_items.specs.Walks.{forms}
 use Rattle.files_car.specs.Car.{Section}
 use Rattle.files_car.specs.Each.{SinkTakes}
@@ -64,22 +63,15 @@ abbrev pub IsBest : Kept → Section → Type 0
 IsBest which.All s = IsVerified s
 IsBest which.Verified s = (s.0.hash_code ≡ 0x12) × IsVerified s
 
--- a section replaces what was held under its CID: none is better; or the same bytes were held; or
--- nothing was, and it is kept
-abbrev pub StaysInPlace : Kept → Option (Vec ℕ Global) → Section → Type 0
-StaysInPlace kept before s = IsBest kept s
-    ⊎ (((v : Vec ℕ Global) × (before ≡ Some v) × (v.items ≡ s.1))
-    ⊎ ((before ≡ None) × IsKeptSection kept s))
+-- a section replaces what is held under its CID: none is better; or nothing is held, and it is kept
+abbrev pub Replaces : Kept → Option (List ℕ) → Section → Type 0
+Replaces kept held s = IsBest kept s ⊎ ((held ≡ None) × IsKeptSection kept s)
 
--- it does not: others may be better, and if it is kept, a block was held under its CID
-abbrev pub Yields : Kept → Option (Vec ℕ Global) → Section → Type 0
-Yields kept before s = ¬ IsBest kept s × (IsKeptSection kept s → is_some before ≡ true)
-
--- the CID has this block again, and every other CID what it had
-abbrev pub PutsBack : CidParts → Option (Vec ℕ Global) → BTreeMap CidParts (Vec ℕ Global)
-    → BTreeMap CidParts (Vec ℕ Global) → Type 0
-PutsBack name before old new = (q : CidParts)
-    → get cid_cmp new q ≡ cond (is_at (cid_cmp name) q) before (get cid_cmp old q)
+-- it does not: the same bytes are held; or others may be better, and if it is kept, a block is held
+-- under its CID
+abbrev pub Yields : Kept → Option (List ℕ) → Section → Type 0
+Yields kept held s = (held ≡ Some s.1)
+    ⊎ (¬ IsBest kept s × (IsKeptSection kept s → is_some held ≡ true))
 
 -- one more section was taken, of those of which some are kept
 abbrev pub KeepsSection : {E : Type 0} → Kept → Section → Stored → Result (Unit {0}) E → Stored → Type 0

@@ -1,9 +1,9 @@
 //! The blocks of a CAR file, held in memory.
 
-ghost use Rattle.std.specs.Prelude.{◌≡◌, is_some, IfOk, IfSome, MatchBool, OnOk};
+ghost use Rattle.std.specs.Prelude.{◌≡◌, is_some, option_map, IfOk, IfSome, MatchBool};
 ghost use Rattle.ipld_links.specs.Reaching.{stored_in};
 ghost use Rattle.ipld_links.specs.Verdicts.{IsVerified};
-ghost use Rattle.program_parts.specs.Holding.{IsBest, StaysInPlace, Yields, PutsBack, KeepsSection};
+ghost use Rattle.program_parts.specs.Holding.{IsBest, Replaces, Yields, KeepsSection};
 ghost use Rattle.program_parts.specs.Holding.{KeepsNext, HoldsFile};
 
 use crate::take::{Ended, take_input};
@@ -69,37 +69,17 @@ fn is_good(kept: Kept, section: &Section<'_>) -> bool
     }
 }
 
-/// Returns whether a section replaces what was held under its CID. Verifies its bytes only if that
-/// decides, and only once.
-fn stays(kept: Kept, before: &Option<Vec<u8>>, section: &Section<'_>) -> bool
+/// Returns whether a section replaces what is held under its CID. Verifies its bytes only if that
+/// decides.
+fn replaces(kept: Kept, held: Option<&[u8]>, section: &Section<'_>) -> bool
     ensures { MatchBool result
-        (StaysInPlace kept before.now (section.now.cid, section.now.block.now))
-        (Yields kept before.now (section.now.cid, section.now.block.now)) }
+        (Replaces kept (option_map (λ b. b.now) held) (section.now.cid, section.now.block.now))
+        (Yields kept (option_map (λ b. b.now) held) (section.now.cid, section.now.block.now)) }
 {
-    match before {
-        Some(block) if block.as_slice() == section.block => true,
+    match held {
+        Some(block) if block == section.block => false,
         None if matches!(kept, Kept::All) => true,
         _ => is_good(kept, section),
-    }
-}
-
-/// Puts back what was held under the CID, which has a block now.
-fn put_back(
-    blocks: &mut BTreeMap<Cid, Vec<u8>>,
-    name: &Cid,
-    before: Option<Vec<u8>>,
-) -> Result<(), AllocError>
-    ensures { OnOk result (PutsBack name.now before blocks.old blocks.new) }
-{
-    match before {
-        Some(block) => match blocks.insert(*name, block) {
-            Ok(_) => Ok(()),
-            Err(_) => Err(AllocError),
-        },
-        None => {
-            blocks.remove(name);
-            Ok(())
-        }
     }
 }
 
@@ -114,14 +94,12 @@ fn hold(
     ensures { KeepsSection kept (section.now.cid, section.now.block.now) (stored_in blocks.old) result
         (stored_in blocks.new) }
 {
+    if !replaces(kept, stored_bytes(blocks, &section.cid), section) {
+        return Ok(());
+    }
     let block = section.block.to_vec(alloc)?;
     match blocks.insert(section.cid, block) {
-        Ok(before) => {
-            if stays(kept, &before, section) {
-                return Ok(());
-            }
-            put_back(blocks, &section.cid, before)
-        }
+        Ok(_) => Ok(()),
         Err(_) => Err(AllocError),
     }
 }

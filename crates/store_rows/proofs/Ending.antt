@@ -35,9 +35,6 @@ module _ (These : ℕ → Type 0) where
     others = λ t out. ap (λ (v : View). v.trees t) h;
   }
 
-  pub writes_itself : (v : View) → WritesIn These v v
-  writes_itself v = record { frame = refl; others = λ t out. refl }
-
   pub writes_then : (old mid new : View) → WritesIn These old mid → WritesIn These mid new → WritesIn These old new
   writes_then old mid new h k = record {
     frame = k.frame ∙ ap (λ (v : View). record v { trees = new.trees; cursors = new.cursors }) h.frame;
@@ -66,9 +63,6 @@ kept_after old mid new h k = let s = subst (λ (v : View). KeepsCommitted v new)
 
 kept_itself : (v : View) → KeepsCommitted v v
 kept_itself v = record { shape = refl; reals = refl; committed_shape = refl; committed_reals = refl; numbered = refl; was_open = λ h. h; committed = λ h. refl; marks = λ h. refl }
-
-schema_itself : (v : View) → KeepsSchema v v
-schema_itself v = record { shape = refl; reals = refl; committed_shape = refl; committed_reals = refl; numbered = refl }
 
 schema_then : (old mid new : View) → KeepsSchema old mid → KeepsSchema mid new → KeepsSchema old new
 schema_then old mid new p q = record {
@@ -100,9 +94,6 @@ pub record Goes {S : Type 0} (g : Ghosts S) (These : ℕ → Type 0) (old new : 
   pub quiet : Quiet g old new
 
 module _ {S : Type 0} {These : ℕ → Type 0} (g : Ghosts S) where
-  pub goes_itself : (a : S) → Goes g These a a
-  goes_itself a = record { frame = λ clean. writes_itself These (g.view a); schema = schema_itself (g.view a); quiet = quiet_itself g a }
-
   pub goes : {T F : Type 0} {x : T} (old new : S) → EndsOnRows g (WritesIn These) F (Ok x) old new → Goes g These old new
   goes old new e = record { frame = e.frame; schema = e.schema; quiet = e.quiet }
 

@@ -54,9 +54,6 @@ none_later m n i j at (inl below) = absurd (true≢false (sym (ap is_lt below) �
 none_later m n i j at (inr tied) = exact_bytes m n tied
 
 module _ (name : List ℕ) where
-  key : Row
-  key = Blob name ∷ []
-
   pub not_listed : (es : List Row) → IsIndex plain es → AreNameEntries es → IsOther name (from_key plain (Blob name ∷ []) es) → IsListed es name → ⊥
   not_listed [] up are other h = h.1
   not_listed (e ∷ es) up are other h = by (is_lt (prefix_cmp plain e (Blob name ∷ []))) refl other (not_listed es up.1 are.1)

@@ -1,5 +1,5 @@
 -- The rows of roots that a walk finds, and what is left of them.
-use Rattle.std.proofs.Common.{◌≡◌, inl, inr, ℕ, ℤ, List, [], ◌∷◌, ◌++◌, Bool, true, false, not, cond, length, Less, is_eq, refl, sym, ap, ◌∙◌, subst, true≢false, append_assoc, append-nil, IsTrue, ◌⊎◌, ◌≢◌, None, Some}
+use Rattle.std.proofs.Common.{◌≡◌, inl, inr, ℕ, ℤ, List, [], ◌∷◌, ◌++◌, Bool, true, false, not, cond, length, Less, is_eq, refl, sym, ap, ◌∙◌, subst, true≢false, append_assoc, IsTrue, ◌⊎◌, ◌≢◌, Some}
 use Rattle.std.specs.List.{AllByRecursion}
 use Rattle.std.specs.Ordering.{ordering_reverse}
 use Rattle.sqlite_value.specs.declared.value.Value.TheVariants.{Int, Blob}
@@ -59,9 +59,6 @@ lists_none rows left is = ([], is, tt)
 pub lists_more : (rows left : List Row) (names : List CidParts) (r : Row) (c : CidParts) → ListsTo rows (r ∷ left) names → IsRootIn r c → ListsTo rows left (names ++ c ∷ [])
 lists_more rows left names r c h is = (h.0 ++ r ∷ [], append_assoc h.0 (r ∷ []) left ∙ h.1, are_more h.0 names r c h.2 is)
 
-pub lists_all : (rows left : List Row) (names : List CidParts) → left ≡ [] → ListsTo rows left names → AreRoots rows names
-lists_all rows left names none h = subst (λ rs. AreRoots rs names) (sym (append-nil h.0) ∙ ap (λ l. h.0 ++ l) (sym none) ∙ h.1) h.2
-
 pub lists_no : (rows left : List Row) (names : List CidParts) (r : Row) → ListsTo rows (r ∷ left) names → ((c : CidParts) → IsRootIn r c → ⊥) → (all : List CidParts) → AreRoots rows all → ⊥
 lists_no rows left names r h other all are = let k = root_at h.0 r left all (subst (λ rs. AreRoots rs all) (sym h.1) are) in other k.0 k.1
 
@@ -74,9 +71,6 @@ passes_more rows left name r h other = (
   append_assoc h.0 (r ∷ []) left ∙ h.1,
   λ k. elim (among_push (root_row k.0 name) h.0 r k.1) [ inl m ↦ h.2 (k.0, m) | inr e ↦ other k.0 (sym e) ],
 )
-
-pub passes_all : (rows left : List Row) (name : List ℕ) → left ≡ [] → PassesTo rows left name → FindsRoot rows name None
-passes_all rows left name none h = subst (λ rs. HasRoot rs name → ⊥) (sym (append-nil h.0) ∙ ap (λ l. h.0 ++ l) (sym none) ∙ h.1) h.2
 
 pub passes_found : (rows left : List Row) (name : List ℕ) (r : Row) (id : ℤ) → PassesTo rows (r ∷ left) name → r ≡ root_row id name → FindsRoot rows name (Some id)
 passes_found rows left name r id h is = (h.0, left, sym h.1 ∙ ap (λ x. h.0 ++ x ∷ left) is, h.2)
@@ -153,9 +147,6 @@ pub record TakesSome (old now : List Row) (name : List ℕ) (taken : Bool) : Typ
   pub were : IsTrue taken → HasRoot old name
   pub same : taken ≡ false → now ≡ old
   pub leaves : (rest : List Row) → LeavesOut (IsRowOfRoot name) now rest → LeavesOut (IsRowOfRoot name) old rest
-
-pub takes_none : (rows : List Row) (name : List ℕ) → TakesSome rows rows name false
-takes_none rows name = record { were = λ t. absurd (true≢false (sym t)); same = λ e. refl; leaves = λ rest l. l }
 
 pub takes_more : (old mid new : List Row) (name : List ℕ) (taken : Bool) → IsTable mid → TakesSome old mid name taken → TakesOutRoot mid new name true → TakesSome old new name true
 takes_more old mid new name taken table h t = record {

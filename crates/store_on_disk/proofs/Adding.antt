@@ -12,9 +12,9 @@ use Rattle.ipld_links.specs.Sets.{Among}
 use Rattle.store_rows.specs.Ends.{Quiet, KeepsOthers, IsOfBlocks, IsOfRoots}
 use Rattle.store_rows.specs.Rows.{block_tree, name_tree, block_row, name_entry, IsStored, IsListed, IsTooLong}
 use Rattle.store_rows.specs.RootRows.{root_tree, AreRoots}
-use Rattle.store_on_disk.specs.Stored.{IsAddedTo, IsAdded, IsSame, IsUndone, FailsByStore, IsTooLongFor, PutRefused, IsCommitted}
+use Rattle.store_on_disk.specs.Stored.{IsAddedTo, IsAdded, IsSame, IsUndone, FailsByStore, IsTooLongFor, PutRefused}
 use Rattle.store_on_disk.specs.Roots.{GainsRoots, MayKeepRoots, AreRootsAdded}
-use Rattle.store_on_disk.specs.Cars.{IsNameIn, IsSectionIn, HoldsSections, IsFilled, IsAddedAll, AddsSections, NotKept}
+use Rattle.store_on_disk.specs.Cars.{IsNameIn, IsSectionIn, HoldsSections, IsAddedAll, AddsSections, NotKept}
 use Rattle.store_on_disk.specs.declared.error.StoreRefusal.{StoreRefusal}
 use Rattle.store_on_disk.specs.declared.error.StoreRefusal.TheVariants as refusal
 use Rattle.store_rows.proofs.Causes.{cause_then}
@@ -107,16 +107,6 @@ added_more old mid new roots ss s h a = record {
   broken = a.sound ∙ sym a.was_sound ∙ h.broken;
 }
 
-pub filled : (old mid new : View) (roots : List CidParts) (ss : List Section) → IsAddedAll old mid roots ss → IsCommitted mid new → IsFilled old new ss
-filled old mid new roots ss h c = record {
-  trees = subst (λ (t : Trees). HoldsSections old.trees t ss) (sym c.trees) h.trees;
-  committed = c.committed ∙ sym c.trees;
-  is_open = c.is_open;
-}
-
-pub gained : (old mid new : View) (roots : List CidParts) (ss : List Section) → IsAddedAll old mid roots ss → IsCommitted mid new → GainsRoots old.trees new.trees roots
-gained old mid new roots ss h c = subst (λ (t : Trees). GainsRoots old.trees t roots) (sym c.trees) h.gains
-
 -- ---- stores
 
 module _ {S : Type 0} (g : Ghosts S) (roots : List CidParts) where
@@ -196,8 +186,3 @@ module _ {S : Type 0} (g : Ghosts S) where
   not_kept roots ss s old mid refused new told h quiet last blame undone p =
       fails_until (IsTooLongFor (g.view old) s) old refused new told last blame undone
       (fails_from (IsTooLongFor (g.view mid) s) (IsTooLongFor (g.view old) s) roots ss old mid refused told h (λ clean. omega (arith, quiet.clean)) (λ clean. subst (λ r. IsTooLong r (cid_bytes s.0) s.1) (h.added clean).reals) p)
-
-  pub last_put : (s : Section) (old new : S) (told : StoreRefusal) → IsClean (g.view new) → PutRefused g s old new told → KeepsLast (g.view old) (g.view new)
-  last_put s old new (refusal.Unsound e) clean p = subst (λ x. KeepsLast (g.view old) (g.view x)) (sym p.1) (last_itself (g.view old))
-  last_put s old new refusal.NoNumber clean p = last_same (g.view old) (g.view new) (p clean).1
-  last_put s old new told clean p = last_undone (g.view old) (g.view new) (p.undone clean)

@@ -19,8 +19,8 @@ use Rattle.ipld_links.specs.Reaching.{Stored, IsThere, KnowsLinks, HidesLinksUnd
 use Rattle.ipld_links.proofs.Members.{any_among, among_any, among_push, push_among}
 use Rattle.store_rows.specs.Rows.{name_tree, IsListed}
 use Rattle.store_rows.specs.Ends.{Quiet}
-use Rattle.store_on_disk.specs.Stored.{HoldsOnly, IsNamedBy, GetsSome, ListsName, IsDamaged, IsSame, FailsByStore, GetRefused}
-use Rattle.store_on_disk.specs.Trees.{ShowsStored, OfStored, GetsKnown, IsKnown, HidesLinksOf, Place, StopsAt, AtName, AtMetBeside, Reaches, ReachRefused, IsShownToWalk, Fits, IsKnownBeside, ReachesBeside}
+use Rattle.store_on_disk.specs.Stored.{HoldsOnly, IsNamedBy, GetsSome, ListsName, IsDamaged, IsSame, FailsByStore}
+use Rattle.store_on_disk.specs.Trees.{ShowsStored, OfStored, GetsKnown, IsKnown, HidesLinksOf, Place, StopsAt, AtMetBeside, Reaches, ReachRefused, IsShownToWalk, Fits, IsKnownBeside, ReachesBeside}
 use Rattle.store_on_disk.specs.Collecting.{IsRooted, HasBlockAt, HaveBlocks, BlocksLacking, AtRooted, AtMarked, CollectsAll, Marks, MarksRoots, MarksMore, CollectRefused}
 use Rattle.store_on_disk.specs.declared.error.StoreRefusal.{StoreRefusal}
 use Rattle.store_on_disk.specs.declared.error.StoreRefusal.TheVariants as refusal
@@ -282,15 +282,6 @@ module _ {S : Type 0} (g : Ghosts S) where
   fails_stops At old new (refusal.LinksUnread n verdict) f = absurd (not_unread g f.error n verdict f.tells)
   fails_stops At old new told f = f
 
-  pub fails_lacking : (IsSo : CidParts → Type 0) (old new : S) (told : StoreRefusal) → FailsByStore g ⊥ old new told → BlocksLacking g IsSo old new told
-  fails_lacking IsSo old new (refusal.NoBlock n) f = absurd (not_lacking g f.error n f.tells)
-  fails_lacking IsSo old new told f = f
-
-  pub get_stops : (name : CidParts) (old new : S) (told : StoreRefusal) → GetRefused g name old new told → StopsAt g (AtName name) old new told
-  get_stops name old new (refusal.Damaged n) p = λ clean. let k = p.1 clean in ((p.0, subst (IsDamaged (g.view old)) (sym p.0) k.0), k.1)
-  get_stops name old new (refusal.LinksUnread n verdict) p = absurd (not_unread g p.error n verdict p.tells)
-  get_stops name old new told p = p
-
   -- the store failed after a call that changed nothing
   fails_later : (old mid new : S) (told : StoreRefusal) → Quiet g old mid → (IsClean (g.view mid) → IsSame (g.view old) (g.view mid)) → (IsClean (g.view new) → IsClean (g.view mid)) → FailsByStore g ⊥ mid new told → FailsByStore g ⊥ old new told
   fails_later old mid new told before same was f = fails_after g ⊥ ⊥ old mid new told before was (λ clean. let s = same clean in (s.broken, last_same (g.view old) (g.view mid) s, λ u. u)) f
@@ -316,12 +307,6 @@ module _ {S : Type 0} (g : Ghosts S) where
   pub stops_collect : (roots : List CidParts) (old new : S) (told : StoreRefusal) → StopsAt g (AtRooted roots) old new told → CollectRefused g roots old new told
   stops_collect roots old new (refusal.NoBlock n) p = absurd (not_lacking g p.error n p.tells)
   stops_collect roots old new told p = p
-
-  pub lacking_collect : (roots : List CidParts) (old new : S) (told : StoreRefusal) → BlocksLacking g (λ q. Among q roots) old new told → CollectRefused g roots old new told
-  lacking_collect roots old new (refusal.NoBlock n) p = p
-  lacking_collect roots old new (refusal.Damaged n) p = absurd (not_damaged g p.error n p.tells)
-  lacking_collect roots old new (refusal.LinksUnread n verdict) p = absurd (not_unread g p.error n verdict p.tells)
-  lacking_collect roots old new told p = p
 
   pub lacking_after : (P Q : CidParts → Type 0) (old mid new : S) (told : StoreRefusal) → Quiet g old mid → (IsClean (g.view mid) → IsSame (g.view old) (g.view mid)) → ((n : CidParts) → P n → Q n)
       → (IsClean (g.view new) → IsClean (g.view mid)) → BlocksLacking g P mid new told → BlocksLacking g Q old new told

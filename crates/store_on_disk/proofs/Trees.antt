@@ -195,9 +195,6 @@ module _ {S : Type 0} (g : Ghosts S) where
       was : IsClean (g.view new) → IsClean (g.view mid)
       was clean = omega (arith, quiet.clean)
 
-      of_old : (IsSo : Stored → Type 0) → IsClean (g.view new) → OfStored (g.view mid) IsSo → OfStored (g.view old) IsSo
-      of_old IsSo clean h stored shows = h stored (shows_same (g.view old) (g.view mid) stored (same (was clean)) shows)
-
       leads : IsClean (g.view new) → OfStored (g.view old) (λ stored. IsLost stored root → ⊥)
       leads clean stored shows = not_lost stored root r.found.items (reached (was clean) stored shows).0 either
 

@@ -4,7 +4,7 @@ use Rattle.sqlite_disk.specs.declared.Disk.{Ghosts}
 use Rattle.sqlite_trees.specs.Tree.{Trees, no_trees}
 use Rattle.sqlite_trees.specs.View.{View, IsClean}
 use Rattle.sqlite_trees.proofs.Doubt.{clean_of}
-use Rattle.sqlite_trees.specs.Objects.{catalog_tree, version_tree}
+use Rattle.sqlite_trees.specs.Objects.{catalog_tree}
 use Rattle.sqlite_wal.specs.Recovery.{Image}
 use Rattle.sqlite_wal.proofs.RecoveryLemmas.{recovers_once}
 use Rattle.sqlite_pages.specs.PageMap.{PageMap}
@@ -14,17 +14,16 @@ use Rattle.sqlite_store.specs.declared.saved.Saved.{Saved}
 use Rattle.sqlite_store.specs.declared.store.FileStore.{FileStore}
 use Rattle.sqlite_store.specs.declared.store.open.Unopened.{Unopened}
 use Rattle.sqlite_store.specs.Saved.{kept_schema}
-use Rattle.sqlite_store.specs.Db.{IsFile}
 use Rattle.sqlite_pool.specs.File.{in_use}
 use Rattle.sqlite_store.specs.Listing.{listed_from, file_trees, all_shapes}
 use Rattle.sqlite_store.specs.Listed.{catalog_rows}
 use Rattle.sqlite_store.specs.FileStore.{state, schema_of, view, IsReady}
-use Rattle.sqlite_store.specs.Unopened.{state_of, wanted_by, image, Opens, HasFile}
+use Rattle.sqlite_store.specs.Unopened.{state_of, wanted_by, image, Opens}
 use Rattle.store_on_disk.specs.Stored as ours
 use Rattle.store_rows.specs.Rows.{name_tree, IsKeyed}
 use Rattle.store_rows.specs.RootRows.{root_tree}
 use Rattle.store_on_disk.specs.Stored.{AreAllRoots}
-use Rattle.store_on_disk.specs.Opened.{HasTrees, IsOpened}
+use Rattle.store_on_disk.specs.Opened.{HasTrees}
 use Rattle.store_on_disk.specs.Leaving.{IsStoreSchema, IsStoreList}
 use Rattle.store_on_disk.specs.Left.{store_objects, IsLeft, HasStore, IsFresh}
 
@@ -44,13 +43,6 @@ ready_fresh v has f = record {
   last_roots = λ h. f.roots;
 }
 
-pub opened_fresh : (v : View) → IsFresh v → IsOpened v v
-opened_fresh v f = record {
-  is_open = f.is_open;
-  now = record { others = λ t out. ap (λ (u : Trees). u t) f.settled; version = inl (ap (λ (u : Trees). u version_tree) f.settled) };
-  committed = sym f.settled;
-}
-
 -- ---- what was recovered is fresh
 
 recovers_one : (size : ℕ) (files : Image) (p q : PageMap) → Recovers size files p → Recovers size files q → p ≡ q
@@ -61,9 +53,6 @@ shown : (clean : Bool) (size : ℕ) (saved : Option Saved) (schema : List Wanted
 shown clean size saved schema pages e none = ap₂ (λ (c : Bool) (s : Option Saved). if c then file_trees size (kept_schema s schema) pages else no_trees) e none
 
 module _ {D : Type 0} {g : Ghosts D} (found : Unopened D g) (store : FileStore D g) where
-  pub has_file : HasStore found → HasFile found
-  has_file h = (h.pages, h.found, subst (λ s. IsFile (state_of found).page_size s h.pages) (sym h.schema) h.ours.file)
-
   pub is_fresh : IsReady store → schema_of store ≡ wanted_by found → (IsTrue (state store).is_clean → IsTrue (state_of found).is_clean)
       → (IsTrue (state store).is_clean → Recovers (state_of found).page_size (image found) (state store).committed)
       → (IsTrue (state store).is_clean → Opens found (state store))

@@ -138,10 +138,6 @@ module _ {S : Type 0} (g : Ghosts S) where
   not_lacking stored.Broken n (inr h) = h
   not_lacking _ n h = cc
 
-  pub fails_walk : (old new : S) (told : StoreRefusal) → FailsByStore g ⊥ old new told → WalkRefused g old new told
-  fails_walk old new (refusal.Damaged n) f = absurd (not_damaged f.error n f.tells)
-  fails_walk old new told f = f
-
   pub get_of_next : (name : CidParts) (last : Option CidParts) (old mid new : S) (told : StoreRefusal) → (IsClean (g.view new) → IsNext ((g.view old).trees name_tree) last name) → GetRefused g name mid new told → IsOfNext g last old new told
   get_of_next name last old mid new (refusal.Damaged n) next p = λ clean. subst (IsNext ((g.view old).trees name_tree) last) (sym p.0) (next clean)
   get_of_next name last old mid new _ next p = tt

@@ -1,13 +1,12 @@
 -- Requests as they come in.
-use Rattle.std.proofs.Common.{◌≡◌, ◌≢◌, inl, inr, ◌==◌, ◌+◌, ◌-◌, ◌<◌, ◌≤◌, ℕ, suc, List, [], ◌∷◌, ◌++◌, length, take, drop, get_or, All, true, false, Bool, arith, refl, sym, ap, ◌∙◌, subst, cond, Option, None, Some, IfSome, Result, Ok, IfOk, length-append, length-drop, append_assoc, take-append-drop, take-take, drop-cons, eqb-true}
+use Rattle.std.proofs.Common.{◌≡◌, ◌≢◌, inl, inr, ◌==◌, ◌+◌, ◌-◌, ◌<◌, ℕ, suc, List, [], ◌∷◌, ◌++◌, length, take, drop, get_or, All, true, false, Bool, arith, refl, sym, ap, ◌∙◌, subst, cond, Option, None, Some, IfSome, length-append, length-drop, append_assoc, take-append-drop, drop-cons, eqb-true}
 use Rattle.std.proofs.Math.Seq.{take-append_seam}
 use Rattle.std.proofs.lemmas.List.{nil_from_length}
 use Rattle.std.proofs.lemmas.List.Elements.{All-append, All-cons, All-nil}
 use Rattle.std.proofs.KnownBytes.{Consumes-trans}
-use Rattle.std.specs.Borrow.{Bor}
-use Rattle.std.specs.Io.{StartsWith, StopsAt, appended_bytes}
+use Rattle.std.specs.Io.{StopsAt, appended_bytes}
 use Rattle.std.specs.Io.KnownBytes.{Consumes, IsAtEnd}
-use Rattle.std.specs.Io.BufRead.{take_through, drop_through, FillKeeps, DropsConsumable, DropsThrough}
+use Rattle.std.specs.Io.BufRead.{take_through, drop_through, DropsThrough}
 use Rattle.program_serve.specs.Requests.{AsksFor, wanted, IsLineOf, IsRequest}
 use Rattle.program_serve.specs.Serving.{IsSpent, IsCut, Pauses, Hears, IsReadTo, HearsAsked}
 use Rattle.program_serve.specs.declared.asked.Request.{Request}
@@ -61,34 +60,6 @@ cut_line raw some none stops =
     (All-cons (λ b. b ≢ 10) (get_or raw at 0) [] (λ e. none (take at raw) (is ∙ ap (λ (b : ℕ). take at raw ++ b ∷ []) e)) (All-nil (λ b. b ≢ 10))))
 
 -- ---- blocks
-
--- this much of the shown bytes was consumed
-pub consumed_front : {E : Type 0} (before mid after : Option (List ℕ)) (limit : Option ℕ) (r : Result (Bor (List ℕ)) E) (shown : Bor (List ℕ)) (n : ℕ) → r ≡ Ok shown
-    → IfSome before (λ xs. StartsWith xs shown.now) → FillKeeps before mid limit r → DropsConsumable mid after limit n → n ≤ length shown.now → Consumes before after (take n shown.now)
-consumed_front None mid after limit r shown n ok starts kept drops below = tt
-consumed_front (Some xs) None after limit r shown n ok starts kept drops below = absurd kept.0
-consumed_front (Some xs) (Some ys) after limit r shown n ok starts kept drops below =
-    let within = subst (λ q. IfOk q (λ s. IfSome limit (λ most. length s.now ≤ most))) ok kept.1 in
-    let left : after ≡ Some (drop n xs) = drops (fits limit within) ∙ ap (λ (l : List ℕ). Some (drop n l)) kept.0 in
-    let front : take n shown.now ≡ take n xs = ap (take n) (sym starts) ∙ take-take n (length shown.now) xs below in
-    subst (λ (k : Option (List ℕ)). Consumes (Some xs) k (take n shown.now)) (sym left) (sym (take-append-drop n xs) ∙ ap (λ (l : List ℕ). l ++ drop n xs) (sym front))
-  where
-    fits : (k : Option ℕ) → IfSome k (λ most. length shown.now ≤ most) → IfSome k (λ most. n ≤ most)
-    fits None h = tt
-    fits (Some most) h = omega (arith, h, below)
-
--- if nothing is shown, nothing is left
-pub spent_shown : {E : Type 0} (before mid after : Option (List ℕ)) (limit : Option ℕ) (r : Result (Bor (List ℕ)) E) (shown : Bor (List ℕ)) (n : ℕ) → r ≡ Ok shown
-    → IfSome before (λ xs. length shown.now ≡ 0 → xs ≡ []) → FillKeeps before mid limit r → DropsConsumable mid after limit n → n ≡ 0 → length shown.now ≡ 0 → IsSpent before after
-spent_shown None mid after limit r shown n ok end kept drops zero_n none = tt
-spent_shown (Some xs) None after limit r shown n ok end kept drops zero_n none = absurd kept.0
-spent_shown (Some xs) (Some ys) after limit r shown n ok end kept drops zero_n none =
-    let left : after ≡ Some (drop 0 ys) = drops (fits limit) ∙ ap (λ (k : ℕ). Some (drop k ys)) zero_n in
-    subst IsAtEnd (sym left) (kept.0 ∙ end none)
-  where
-    fits : (k : Option ℕ) → IfSome k (λ most. n ≤ most)
-    fits None = tt
-    fits (Some most) = omega (arith, zero_n)
 
 -- an input that is at its end after some bytes were taken is at its end
 pub spent_after : (before mid after : Option (List ℕ)) (bs : List ℕ) → Consumes before mid bs → IsSpent mid after → IsSpent before after

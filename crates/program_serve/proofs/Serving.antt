@@ -1,17 +1,15 @@
 -- Requests that are answered one after the other.
-use Rattle.std.proofs.Common.{◌≡◌, ◌≢◌, inl, inr, ℕ, List, [], ◌∷◌, ◌++◌, flat_map, append-nil, refl, sym, ap, ◌∙◌, subst, Option, Err}
+use Rattle.std.proofs.Common.{◌≡◌, inr, ℕ, List, [], ◌∷◌, ◌++◌, flat_map, append-nil, refl, sym, ap, ◌∙◌, subst, Option}
 use Rattle.std.proofs.KnownBytes.{Appends-trans}
 use Rattle.std.proofs.lemmas.Grind.{flat_map-append}
 use Rattle.std.specs.Io.KnownBytes.{Appends}
 use Rattle.sqlite_trees.specs.declared.store.Store.{Ghosts}
-use Rattle.program_shared.specs.declared.fault.ToolError.{ToolError}
-use Rattle.program_shared.specs.declared.fault.ToolError.TheVariants.{Input, Output, OutOfMemory}
 use Rattle.program_serve.specs.Replies.{reply_text}
 use Rattle.program_serve.specs.Answers.{Replies, Leaves}
 use Rattle.program_serve.specs.declared.asked.Request.{Request}
 use Rattle.program_serve.specs.declared.reply.Reply.{Reply}
 use Rattle.program_serve.specs.declared.heard.Heard.TheVariants as heards
-use Rattle.program_serve.specs.Serving.{Exchange, Exchanges, AreExchanged, answers, Stops, Hears}
+use Rattle.program_serve.specs.Serving.{Exchange, Exchanges, AreExchanged, answers, Hears}
 
 pub answers_next : (held sent now : Option (List ℕ)) (xs : List Exchange) (x : Exchange) → Appends held sent (answers xs) → Appends sent now (reply_text x.reply) → Appends held now (answers (xs ++ x ∷ []))
 answers_next held sent now xs x first next =
@@ -36,9 +34,3 @@ module _ {S : Type 0} (g : Ghosts S) where
   pub exchanged_next : (xs : List Exchange) (x : Exchange) (before left after : Option (List ℕ)) (old now new : S) → AreExchanged g xs before old left now → Exchanges g x left now after new → AreExchanged g (xs ++ x ∷ []) before old after new
   exchanged_next [] x before left after old now new h e = (after, new, subst (λ (l : Option (List ℕ)). Exchanges g x l old after new) h.0 (subst (λ (s : S). Exchanges g x left s after new) h.1 e), (refl, refl))
   exchanged_next (y ∷ ys) x before left after old now new h e = (h.0, h.1, h.2, exchanged_next ys x h.0 left after h.1 now new h.3 e)
-
-  -- the store got no request
-  pub stops_early : (e : ToolError) (before after held : Option (List ℕ)) (s : S) → e ≢ Output → Stops g (Err e) before s held after s held
-  stops_early Input before after held s other = (refl, refl)
-  stops_early OutOfMemory before after held s other = inl (refl, refl)
-  stops_early Output before after held s other = absurd (other refl)

@@ -1,14 +1,12 @@
 -- A list of CIDs, one per line.
 use Rattle.std.specs.Bool.{⊤}
-use Rattle.std.proofs.Common.{◌≡◌, ℕ, ◌+◌, List, [], ◌∷◌, ◌++◌, length, length-append, append-nil, append_assoc, refl, sym, ap, ◌∙◌, subst, arith}
+use Rattle.std.proofs.Common.{◌≡◌, ℕ, ◌+◌, List, [], ◌∷◌, ◌++◌, length, length-append, append_assoc, refl, sym, ap, ◌∙◌, arith}
 use Rattle.std.specs.BTreeSet.{insert_key}
 use Rattle.ipld_tree.specs.Cid.{CidParts, cid_cmp}
-use Rattle.text_cid.specs.Texts.{IsTextOf, IsTextFault}
-use Rattle.text_cid.specs.declared.error.CidTextError.{CidTextError}
+use Rattle.text_cid.specs.Texts.{IsTextOf}
 use Rattle.program_inspect.specs.Names.{distinct}
 use Rattle.program_inspect.proofs.Counting.{distinct_push}
 use Rattle.program_sections.specs.Words.{AreTexts}
-use Rattle.program_sections.specs.Lists.{list_lines, ListsNames, IsWrongLine}
 use Rattle.program_sections.proofs.Wording.{texts_push}
 
 -- the first `number` lines were read
@@ -20,9 +18,6 @@ pub record Read (lines rest : List (List ℕ)) (number : ℕ) (names : List CidP
   pub are : AreTexts done cs
   pub set : names ≡ distinct cs
 
-pub read_none : (lines rest : List (List ℕ)) (number : ℕ) (names : List CidParts) → rest ≡ lines → number ≡ 0 → names ≡ [] → Read lines rest number names
-read_none lines rest number names all zero none = record { done = []; all = sym all; count = zero; cs = []; are = tt; set = none }
-
 pub read_more : (lines rest next : List (List ℕ)) (line : List ℕ) (number : ℕ) (old new : List CidParts) (c : CidParts) → Read lines rest number old → rest ≡ line ∷ next → IsTextOf line c → new ≡ insert_key cid_cmp old c → Read lines next (number + 1) new
 read_more lines rest next line number old new c h first is put = record {
   done = h.done ++ line ∷ [];
@@ -32,9 +27,3 @@ read_more lines rest next line number old new c h first is put = record {
   are = texts_push h.done h.cs line c h.are is;
   set = put ∙ ap (λ k. insert_key cid_cmp k c) h.set ∙ sym (distinct_push [] h.cs c);
 }
-
-pub read_all : (text : List ℕ) (number : ℕ) (rest : List (List ℕ)) (names : List CidParts) → Read (list_lines text) rest number names → rest ≡ [] → ListsNames text names
-read_all text number rest names h none = (h.cs, subst (λ l. AreTexts l h.cs) (sym (h.all ∙ ap (λ l. h.done ++ l) none ∙ append-nil h.done)) h.are, h.set)
-
-pub read_wrong : (text : List ℕ) (rest next : List (List ℕ)) (line : List ℕ) (number : ℕ) (names : List CidParts) (e : CidTextError) → Read (list_lines text) rest number names → rest ≡ line ∷ next → IsTextFault e line → IsWrongLine text (number + 1) e
-read_wrong text rest next line number names e h first is = (h.done, line, next, h.cs, h.all ∙ ap (λ l. h.done ++ l) first, h.are, is, ap (λ n. n + 1) h.count)

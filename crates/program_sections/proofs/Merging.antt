@@ -1,7 +1,6 @@
 -- What a merge writes.
-use Rattle.std.proofs.Common.{◌≡◌, ◌↔◌, ◌⊎◌, inl, inr, ℕ, ◌+◌, ◌<◌, ◌^◌, List, [], ◌∷◌, ◌++◌, length, length-append, append-nil, append_assoc, map, take, get_or, Bool, true, false, refl, sym, ap, ◌∙◌, subst, arith, Option, None, Some, Result, Ok, Err, MatchResult, MatchOption, IfOk, IsErrAnd, flat_map, Vec, Global}
+use Rattle.std.proofs.Common.{◌≡◌, ◌↔◌, ◌⊎◌, inl, inr, ℕ, ◌+◌, ◌^◌, List, [], ◌∷◌, ◌++◌, length, length-append, append-nil, append_assoc, map, Bool, true, false, refl, sym, ap, ◌∙◌, subst, arith, Option, None, Some, Result, Ok, Err, MatchResult, MatchOption, IfOk, IsErrAnd, flat_map, Vec, Global}
 use Rattle.std.proofs.lemmas.Grind.{flat_map-append}
-use Rattle.std.proofs.lemmas.List.{take_more}
 use Rattle.std.specs.Io.KnownBytes.{Appends}
 use Rattle.std.proofs.KnownBytes.{Appends-nil, Appends-trans}
 use Rattle.std.specs.declared.convert.Infallible.{Infallible}
@@ -28,7 +27,6 @@ use Rattle.program_shared.specs.declared.fault.ToolError.{ToolError}
 use Rattle.program_sections.specs.Sending.{SendsText, SaysSent}
 use Rattle.program_sections.specs.Merging.{once_with, merged_roots, IsMerged, IsMergedFile, AreFiles, BeginFiles, FilesFront, file_line, TellsNoneBegins, TellsBreak, IsMergedOf, IsMergedFront}
 use Rattle.program_sections.specs.MergeSteps.{AddsRoots, Work, HoldsIt, Merges, Sent, BreaksSections, Place, IsAfter, HasFirst, TellsFileBreak, MergesFile, TellsEnd, AreAfter, MergesFiles, AreLeft, BeginsOne, BeginsAll, place_of, given_or, TellsFault}
-use Rattle.program_sections.specs.declared.merge.Roots.{Roots}
 use Rattle.program_sections.specs.declared.merge.Begun.{Begun}
 use Rattle.program_sections.specs.declared.merge.Following.{Following}
 use Rattle.program_inspect.proofs.Counting.{map_push}
@@ -206,21 +204,6 @@ abbrev pub MergedSoFar : List Place → Work → List Place → Work → Type 0
 MergedSoFar places old left now = (bs : List (List ℕ)) (file_roots roots : List CidParts) (first : Option (List ℕ))
     → AreAfter 1 bs file_roots places → Sent roots first old [] → Mid bs file_roots roots first left old now
 
-pub so_far_none : (places left : List Place) (old now : Work) → left ≡ places → now ≡ old → MergedSoFar places old left now
-so_far_none places left old now e same bs file_roots roots first h sent = record {
-  before = [];
-  after = bs;
-  all = refl;
-  roots_before = [];
-  roots_after = file_roots;
-  all_roots = refl;
-  sections = [];
-  are = (refl, refl);
-  following = subst (AreAfter 1 bs file_roots) (sym e) h;
-  sent = subst (λ w. Sent roots first w []) (sym same) sent;
-  through = ap (λ (w : Work). w.through) same;
-}
-
 -- a file of these is being taken
 record Next (bs : List (List ℕ)) (file_roots roots : List CidParts) (first : Option (List ℕ)) (at : Place) (next : List Place) (old w : Work) (mid : Mid bs file_roots roots first (at ∷ next) old w) : Type 0 where
   b : List ℕ
@@ -397,15 +380,6 @@ merge_header_broke bs given listed roots places old heard new r e following same
     (subst (λ l. BreaksLine (λ out. out ≡ header_bytes (forms l)) old new e) (given_same given listed roots same) broke) (err_is r e is) refl
 
 -- ---- the headers
-
-pub adds_none : (old new : Roots) → new ≡ old → AddsRoots [] old new
-adds_none old new e more = ap (λ (r : Roots). r.listed.items ++ once_with r.seen.keys more) e
-
-adds_append : (a b : List CidParts) (old mid new : Roots) → AddsRoots a old mid → AddsRoots b mid new → AddsRoots (a ++ b) old new
-adds_append a b old mid new h k more = k more ∙ h (b ++ more) ∙ ap (λ l. old.listed.items ++ once_with old.seen.keys l) (sym (append_assoc a b more))
-
-pub adds_next : (roots : List CidParts) (i : ℕ) (c : CidParts) (old mid new : Roots) → i < length roots → c ≡ get_or roots i c → AddsRoots (take i roots) old mid → AddsRoots (c ∷ []) mid new → AddsRoots (take (i + 1) roots) old new
-adds_next roots i c old mid new lt at h k = subst (λ l. AddsRoots l old new) (sym (take_more roots i c lt ∙ ap (λ y. take i roots ++ y ∷ []) (sym at))) (adds_append (take i roots) (c ∷ []) old mid new h k)
 
 -- some headers were read
 pub record BegunMid {R : Type 0} (reading : R → Reading) (bs : List (List ℕ)) (left : List Reading) (number : ℕ) (begun : Begun R) : Type 0 where

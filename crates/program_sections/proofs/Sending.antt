@@ -1,12 +1,11 @@
 -- How a file is written, piece by piece.
 use Rattle.std.specs.Bool.{⊤}
-use Rattle.std.proofs.Common.{◌≡◌, inl, inr, List, ℕ, [], ◌++◌, append-nil, append_assoc, Bool, true, false, IsTrue, refl, sym, ap, ◌∙◌, subst, ◌∷◌, IsErrAnd, IfSome, Option, None, Some, Result, Ok, Err}
+use Rattle.std.proofs.Common.{◌≡◌, inl, inr, List, ℕ, [], ◌++◌, append-nil, append_assoc, Bool, IsTrue, refl, sym, ap, ◌∙◌, subst, ◌∷◌, IsErrAnd, IfSome, Option, Some, Result, Ok, Err}
 use Rattle.std.specs.Io.KnownBytes.{Appends}
 use Rattle.std.proofs.KnownBytes.{Appends-nil, Appends-trans}
-use Rattle.dagcbor_heads.specs.Written.{Written, Stops, WroteFront, WantsMemoryOnlyIf}
+use Rattle.dagcbor_heads.specs.Written.{Written, Stops, WroteFront}
 use Rattle.dagcbor_core.specs.declared.error.EncodeError.{EncodeError}
 use Rattle.dagcbor_core.specs.declared.error.EncodeError.TheVariants as unsent
-use Rattle.files_car.specs.Writers.{UnsentWithoutMemory}
 use Rattle.program_shared.specs.declared.fault.ToolError.{ToolError}
 use Rattle.program_shared.specs.declared.fault.ToolError.TheVariants.{Output}
 use Rattle.program_parts.specs.Lines.{BreaksLine, SaysLines, SaysBoth}
@@ -18,18 +17,6 @@ pub front_sent : {E : Type 0} (text : List ℕ) (old new : Written) (e : EncodeE
 front_sent text old new e f before after stops is b a =
     let k = (subst (Stops (Some text) old new) is stops).0 in
     inr (k.0, k.1, sym k.2, refl, subst (λ x. Appends x after k.0) b (subst (λ x. Appends old.bytes x k.0) a k.3))
-
--- any other refusal of a writer that takes no memory: nothing was written
-pub none_sent : {E : Type 0} (text : List ℕ) (old new : Written) (e : EncodeError E) (x : ToolError) (before after : Option (List ℕ)) → Stops (Some text) old new e → UnsentWithoutMemory {T = Unit {0}} false old (Err e) new → ((f : E) → e ≡ unsent.Write f → ⊥) → old.bytes ≡ before → new.bytes ≡ after → BreaksLine (λ out. out ≡ text) before after x
-none_sent text old new (unsent.Msg m) x before after stops none other b a = absurd (let clash : Some text ≡ None = stops.0 in cc clash)
-none_sent text old new (unsent.Write f) x before after stops none other b a = absurd (other f refl)
-none_sent text old new unsent.OutOfMemory x before after stops none other b a = inl (subst (λ y. Appends before y []) (sym b ∙ ap (λ (w : Written). w.bytes) (sym (none refl)) ∙ a) (Appends-nil before))
-
--- a writer that takes no memory writes nothing if it reports out of memory
-pub unsent_anyway : {E : Type 0} (old new : Written) (e : EncodeError E) → WantsMemoryOnlyIf {T = Unit {0}} false (Err e) → UnsentWithoutMemory {T = Unit {0}} false old (Err e) new
-unsent_anyway old new unsent.OutOfMemory h = absurd (let clash : false ≡ true = h in cc clash)
-unsent_anyway old new (unsent.Msg m) h = tt
-unsent_anyway old new (unsent.Write f) h = tt
 
 module _ (IsFirst : List ℕ → Type 0) (IsSaid : Bool → List ℕ → List ℕ → Type 0) (old heard new : Option (List ℕ)) where
   -- the whole output was written, and then the error lines

@@ -1,8 +1,7 @@
 -- The words of `filter`.
 use Rattle.std.specs.Bool.{⊤}
-use Rattle.std.proofs.Common.{◌≡◌, ◌≢◌, ◌⊎◌, inl, inr, ℕ, ◌+◌, ◌==◌, ◌<◌, ◌≤◌, List, [], ◌∷◌, ◌++◌, length, append-nil, append_assoc, Bool, true, false, if◌then◌else◌, refl, sym, ap, ◌∙◌, subst, Option, None, Some, codes, map, arith, get_or, MatchOption}
+use Rattle.std.proofs.Common.{◌≡◌, ◌≢◌, ◌⊎◌, inl, inr, ℕ, ◌+◌, ◌==◌, ◌<◌, ◌≤◌, List, [], ◌∷◌, ◌++◌, length, append_assoc, Bool, true, false, if◌then◌else◌, sym, ap, ◌∙◌, subst, Option, None, Some, codes, map, arith, get_or, MatchOption}
 use Rattle.std.specs.Str.{bytes_eq}
-use Rattle.std.proofs.lemmas.List.{length-map}
 use Rattle.std.proofs.lemmas.Slice.Eq.{bytes_eq-Decides}
 use Rattle.ipld_tree.specs.Cid.{CidParts}
 use Rattle.text_cid.specs.Texts.{IsTextOf}
@@ -24,24 +23,12 @@ texts_none [] text more (c ∷ cs) none h = none c h.0
 texts_none (t ∷ done) text more [] none h = h
 texts_none (t ∷ done) text more (c ∷ cs) none h = texts_none done text more cs none h.1
 
-no_root : (words : List (List ℕ)) → HasNoRoot words → (root_texts words ≡ []) × (after_roots words ≡ words)
-no_root [] none = (refl, refl)
-no_root (o ∷ []) none = (refl, refl)
-no_root (o ∷ t ∷ ws) none = by (bytes_eq o (codes "--root")) refl
-  where
-    by : (b : Bool) → bytes_eq o (codes "--root") ≡ b → (root_texts (o ∷ t ∷ ws) ≡ []) × (after_roots (o ∷ t ∷ ws) ≡ o ∷ t ∷ ws)
-    by true e = absurd (none t ws (ap (λ x. x ∷ t ∷ ws) ((bytes_eq-Decides o (codes "--root")).0 e)))
-    by false e = (ap (λ b. if b then t ∷ root_texts ws else []) e, ap (λ b. if b then after_roots ws else o ∷ t ∷ ws) e)
-
 -- how far the words were split
 pub record Split (words rest : List (List ℕ)) (cs : List CidParts) : Type 0 where
   pub done : List (List ℕ)
   pub texts : root_texts words ≡ done ++ root_texts rest
   pub following : after_roots words ≡ after_roots rest
   pub are : AreTexts done cs
-
-pub split_begun : (words : List (List ℕ)) (cs : List CidParts) → cs ≡ [] → Split words words cs
-split_begun words cs none = record { done = []; texts = refl; following = refl; are = subst (AreTexts []) (sym none) tt }
 
 pub split_more : (words rest next : List (List ℕ)) (cs : List CidParts) (c : CidParts) → Split words rest cs → HasRoot rest (Some c) next → Split words next (cs ++ c ∷ [])
 split_more words rest next cs c h k = record {
@@ -53,14 +40,6 @@ split_more words rest next cs c h k = record {
 
 pub split_wrong : (words rest next : List (List ℕ)) (cs : List CidParts) → Split words rest cs → HasRoot rest None next → (roots : List CidParts) → AreTexts (root_texts words) roots → ⊥
 split_wrong words rest next cs h k roots are = texts_none h.done k.0 (root_texts next) roots k.2 (subst (λ l. AreTexts l roots) (h.texts ∙ ap (λ l. h.done ++ root_texts l) k.1) are)
-
-pub split_ended : (words rest : List (List ℕ)) (cs : List CidParts) → Split words rest cs → HasNoRoot rest → AreTexts (root_texts words) cs × (rest ≡ after_roots words)
-split_ended words rest cs h none =
-    let k = no_root rest none in
-    (subst (λ l. AreTexts l cs) (sym (h.texts ∙ ap (λ l. h.done ++ l) k.0 ∙ append-nil h.done)) h.are, sym (h.following ∙ k.1))
-
-pub shorter : {X : Type 0} (f : X → List ℕ) (xs ys : List X) (root : Option CidParts) → HasRoot (map f xs) root (map f ys) → length ys < length xs
-shorter f xs ys root k = omega (arith, length-map xs f, length-map ys f, ap length k.1)
 
 pub is_word : (name word : List ℕ) (t : Bool) → t ≡ bytes_eq word name → t ≡ true → word ≡ name
 is_word name word t e h = (bytes_eq-Decides word name).0 (sym e ∙ h)

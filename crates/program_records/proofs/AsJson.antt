@@ -57,9 +57,6 @@ SoFar stored all rest well out told = (w : Bool) (o t : List ℕ) → AreRecords
 same_said : (stored : Stored) (es : List Entry) (w x : Bool) (o p t u : List ℕ) → w ≡ x → o ≡ p → t ≡ u → AreRecordsSaid stored es w o t → AreRecordsSaid stored es x p u
 same_said stored es w x o p t u e f g h = subst (λ y. y) (λ i. AreRecordsSaid stored es (e i) (f i) (g i)) h
 
-pub none_said : (stored : Stored) (es : List Entry) (out told : List ℕ) → out ≡ [] → told ≡ [] → SoFar stored es es true out told
-none_said stored es out told e f = λ w o t h. same_said stored es w w o (out ++ o) t (told ++ t) refl (ap (λ x. x ++ o) (sym e)) (ap (λ x. x ++ t) (sym f)) h
-
 pub one_said : (stored : Stored) (all : List Entry) (e : Entry) (es : List Entry) (well first both : Bool) (out line lines told text texts : List ℕ)
     → SoFar stored all (e ∷ es) well out told → IsRecordSaid stored e first line text → both ≡ (well && first) → lines ≡ out ++ line → texts ≡ told ++ text
     → SoFar stored all es both lines texts

@@ -11,11 +11,6 @@ use Rattle.atproto_mst.specs.declared.entries.MstEntry.{MstEntry}
 use Rattle.atproto_mst.specs.declared.repo.Repo.{Repo}
 use Rattle.program_records.specs.Repositories.{IsFileHeld, IsUnreadOf, IsRepoFile, IsNoRepoFile}
 
--- what holds of both sides holds of them in other words
-pub match_result : {A E : Type 0} {P P' : A → Type 0} {Q Q' : E → Type 0} (r : Result A E) → MatchResult r P Q → ((a : A) → P a → P' a) → ((e : E) → Q e → Q' e) → MatchResult r P' Q'
-match_result (Ok a) h f g = f a h
-match_result (Err e) h f g = g e h
-
 -- the keys of a repository rise
 pub records_rise : (b : List ℕ) (c : Commit) (records : List MstEntry) → IsRepoFile b c records → Rise (entries records)
 records_rise b c records h = h.4.1.valid.rise

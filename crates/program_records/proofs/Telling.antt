@@ -1,5 +1,5 @@
 -- The output for a repository's records.
-use Rattle.std.proofs.Common.{◌≡◌, inl, inr, ℕ, List, [], ◌∷◌, Bool, sym, refl, ◌∙◌, subst, Result, Ok, Err, IfOk}
+use Rattle.std.proofs.Common.{◌≡◌, inl, inr, ℕ, List, ◌∷◌, Bool, sym, refl, ◌∙◌, subst, Result, Ok, Err, IfOk}
 use Rattle.ipld_tree.specs.Cid.{CidParts}
 use Rattle.ipld_links.specs.Blocks.{NamedBlock}
 use Rattle.ipld_links.specs.Reaching.{Stored}
@@ -27,9 +27,6 @@ told_as line text well out told is h = (h.0, h.1, h.2 ∙ is)
 
 pub of_first : (IsSo : CidParts → Type 0) (IsNone : Type 0) (roots : List CidParts) (root : CidParts) (others : List CidParts) → roots ≡ root ∷ others → IsSo root → OfFirstRoot IsSo IsNone roots
 of_first IsSo IsNone roots root others is h = subst (OfFirstRoot IsSo IsNone) (sym is) h
-
-pub of_none : (IsSo : CidParts → Type 0) (IsNone : Type 0) (roots : List CidParts) → roots ≡ [] → IsNone → OfFirstRoot IsSo IsNone roots
-of_none IsSo IsNone roots none h = subst (OfFirstRoot IsSo IsNone) (sym none) h
 
 -- ---- refusals
 

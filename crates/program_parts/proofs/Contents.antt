@@ -24,10 +24,6 @@ pub joined_on : (a b : List ℕ) (x : Option (List ℕ)) → joined (Some a) (jo
 joined_on a b None = refl
 joined_on a b (Some s) = ap Some (sym (append_assoc a b s))
 
--- nothing was read
-pub read_to_begin : (stored : Stored) (root : CidParts) (wanted : List Asked) → ((blocks : List ℕ → Option (List ℕ)) → stack_bytes blocks wanted ≡ bytes_under blocks 256 (cid_bytes root)) → IsReadTo stored root [] wanted
-read_to_begin stored root wanted h = λ blocks holds. sym (h blocks) ∙ sym (joined_nothing (stack_bytes blocks wanted))
-
 -- one more part
 pub read_further : (stored : Stored) (root : CidParts) (out piece : List ℕ) (wanted left : List Asked) → IsReadTo stored root out wanted → IsReadOn stored wanted piece left → IsReadTo stored root (out ++ piece) left
 read_further stored root out piece wanted left h k = λ blocks holds. h blocks holds ∙ ap (joined (Some out)) (k blocks holds) ∙ joined_on out piece (stack_bytes blocks left)

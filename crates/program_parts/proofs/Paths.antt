@@ -1,26 +1,14 @@
 -- Paths of names, name by name.
-use Rattle.std.proofs.Common.{◌≡◌, inl, inr, ℕ, List, [], ◌∷◌, refl, sym, subst}
+use Rattle.std.proofs.Common.{◌≡◌, inl, ℕ, List, ◌∷◌, refl, sym, subst}
 use Rattle.ipld_tree.specs.Cid.{CidParts}
 use Rattle.ipld_links.specs.Reaching.{Stored}
 use Rattle.program_parts.specs.declared.file_names.NamesEnd.{NamesEnd}
-use Rattle.program_parts.specs.FileNames.{HasEntry, NamesNothing, LeadsByNames, EndsByNames}
+use Rattle.program_parts.specs.FileNames.{NamesNothing, LeadsByNames, EndsByNames}
 
 -- Where the rest of a path leads from a block, or ends, the whole path does from the root.
 pub record GoesOn (stored : Stored) (root : CidParts) (path : List (List ℕ)) (at : CidParts) (left : List (List ℕ)) : Type 0 where
   pub leads : (found : CidParts) → LeadsByNames stored at left found → LeadsByNames stored root path found
   pub ends : (end : NamesEnd) → EndsByNames stored at left end → EndsByNames stored root path end
-
-pub goes_nowhere : (stored : Stored) (root : CidParts) (path : List (List ℕ)) → GoesOn stored root path root path
-goes_nowhere stored root path = record { leads = λ found h. h; ends = λ end h. h }
-
-pub goes_further : (stored : Stored) (root at next : CidParts) (name : List ℕ) (path left more : List (List ℕ)) → left ≡ name ∷ more → HasEntry stored at name next → GoesOn stored root path at left → GoesOn stored root path next more
-goes_further stored root at next name path left more is entry h = record {
-  leads = λ found k. h.leads found (subst (λ x. LeadsByNames stored at x found) (sym is) (next, entry, k));
-  ends = λ end k. h.ends end (subst (λ x. EndsByNames stored at x end) (sym is) (inr (next, entry, k)));
-}
-
-pub leads_here : (stored : Stored) (root at : CidParts) (path left : List (List ℕ)) → left ≡ [] → GoesOn stored root path at left → LeadsByNames stored root path at
-leads_here stored root at path left none h = h.leads at (subst (λ x. LeadsByNames stored at x at) (sym none) refl)
 
 pub ends_here : (stored : Stored) (root at : CidParts) (path left more : List (List ℕ)) (end : NamesEnd) → left ≡ end.name.now ∷ more → end.block ≡ at → NamesNothing stored at end.name.now end.cause → GoesOn stored root path at left → EndsByNames stored root path end
 ends_here stored root at path left more end is same nothing h = h.ends end (subst (λ x. EndsByNames stored at x end) (sym is) (inl (same, refl, nothing)))

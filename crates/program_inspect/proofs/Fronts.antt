@@ -8,10 +8,6 @@ use Rattle.program_inspect.specs.Front.{TakesByte, TakesFront}
 abbrev pub TookSome : ℕ → List ℕ → List ℕ → Option (List ℕ) → Type 0
 TookSome n b front left = (rest : List ℕ) × (b ≡ front ++ rest) × (left ≡ Some rest) × (length front ≡ n)
 
-pub took_none : (known : Option (List ℕ)) (front : List ℕ) → front ≡ [] → IfSome known (λ b. TookSome 0 b front known)
-took_none None front is = tt
-took_none (Some b) front is = (b, sym (ap (λ f. f ++ b) is), refl, ap length is)
-
 pub took_more : (known left new : Option (List ℕ)) (n x : ℕ) (o : Option ℕ) (front : List ℕ) → o ≡ Some x → IfSome known (λ b. TookSome n b front left) → IfSome left (λ b. TakesByte b o new) → IfSome known (λ b. TookSome (n + 1) b (front ++ x ∷ []) new)
 took_more None left new n x o front is h k = tt
 took_more (Some b) left new n x o front is h k =

@@ -10,6 +10,3 @@ after_commas f (x ∷ xs) = ap (λ l. (44 ∷ f x) ++ l) (after_commas f xs)
 pub joined_more : {X : Type 0} (f : X → List ℕ) (xs : List X) (x : X) (others : List X) (out first more : List ℕ) → xs ≡ x ∷ others → first ≡ f x → more ≡ flat_map (λ y. 44 ∷ f y) others → out ≡ first ++ more → out ≡ joined (map f xs)
 joined_more f xs x others out first more is h k e =
     e ∙ ap (λ l. l ++ more) h ∙ ap (λ l. f x ++ l) (k ∙ sym (after_commas f others)) ∙ sym (ap (λ l. joined (map f l)) is)
-
-pub joined_none : {X : Type 0} (f : X → List ℕ) (xs : List X) (out : List ℕ) → xs ≡ [] → out ≡ [] → out ≡ joined (map f xs)
-joined_none f xs out is h = h ∙ sym (ap (λ l. joined (map f l)) is)

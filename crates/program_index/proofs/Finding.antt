@@ -4,7 +4,6 @@ use Rattle.std.proofs.Common.{◌≡◌, ℕ, ◌+◌, ◌-◌, ◌^◌, ◌<◌
 use Rattle.std.proofs.lemmas.Bool.{cases_lt}
 use Rattle.std.proofs.lemmas.List.{drop_all}
 use Rattle.std.proofs.Math.Seq.{take-append-add}
-use Rattle.std.specs.Option.{option_map}
 use Rattle.ipld_tree.specs.Cid.{CidParts, AreCidParts}
 use Rattle.ipld_links.specs.Verdicts.{IsVerified}
 use Rattle.dagcbor_heads.specs.Reading.{Reading}
@@ -39,10 +38,6 @@ sought_taken name n extent rest old new s b t l h =
     let k = t.1.takes.taken b l in
     let same : s ≡ (name, h.block) = (section_unique s (name, h.block) k.0 h.rest t.0 h.section (sym k.1 ∙ h.is)).0 in
     (ap (λ (x : Section). x.0) same, subst IsVerified (sym same) h.verified)
-
--- there are some bytes there
-pub sought_some : (name : CidParts) (n : ℕ) (b : List ℕ) → BeginsSought name n b → 0 < n
-sought_some name n b h = omega (arith, section_some (name, h.block) h.section, h.within)
 
 stands_then : {E : Type 0} (stands : CarError E → List ℕ → Type 0) (old new : Reading) (e : CarError E) (b : List ℕ) → IsOfBytes e → CarRefuses stands old e new → old.left ≡ Some b → stands e b
 stands_then stands old new (faults.Read f) b is r l = absurd is
@@ -113,10 +108,6 @@ led_in name layout bucket b is h =
     let same : h.0 ≡ bucket = cc both in
     subst (λ x. LeadsIn name layout x b) same h.2
 
-pub from_place : (known left : Option (List ℕ)) (place : ℕ) (P : List ℕ → Type 0) → left ≡ option_map (drop place) known → IfSome left P → IfSome known (λ b. P (drop place b))
-from_place None left place P is h = tt
-from_place (Some b) left place P is h = subst (λ x. IfSome x P) is h
-
 -- ---- one entry after the other
 
 -- an entry that leads to a block is not passed over
@@ -157,9 +148,6 @@ passed_on name layout bucket first number offset b f up e none k l = elim (cases
 -- none of the first 16 leads to a block
 pub all_passed : (name : CidParts) (layout : Layout) (bucket : Bucket) (first number : ℕ) (b : List ℕ) → IsFirst b bucket name.digest first → min (first + 16) (2 ^ 64 - 1) ≤ number → NotPassed name layout bucket first number b → LeadsIn name layout bucket b → ⊥
 all_passed name layout bucket first number b f far up (k, early, l) = absurd (omega (arith, up k l, early, far, f.within, l.few))
-
-pub none_passed : (name : CidParts) (layout : Layout) (bucket : Bucket) (first : ℕ) (b : List ℕ) → NotPassed name layout bucket first first b
-none_passed name layout bucket first b k l = omega arith
 
 -- ---- the whole
 

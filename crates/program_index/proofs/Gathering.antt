@@ -9,7 +9,7 @@ use Rattle.files_car.specs.Sources.{CarRefuses, RefusesStart}
 use Rattle.files_car.specs.declared.error.CarError.{CarError}
 use Rattle.files_car.proofs.Places.{no_file}
 use Rattle.program_parts.specs.Lines.{refused_line}
-use Rattle.files_index.specs.Index.{EntryParts, entry_cmp}
+use Rattle.files_index.specs.Index.{entry_cmp}
 use Rattle.program_parts.specs.Taking.{IsOfBytes, TookEach, TakesWhole}
 use Rattle.program_parts.specs.Holding.{TellsFault}
 use Rattle.program_parts.proofs.Taking.{alone, alone_line, header_alone}
@@ -23,10 +23,6 @@ section_long name block =
     let body : length (name ++ block) ≡ length name + length block = length-append name block in
     let all : length (counted (name ++ block)) ≡ length (varint (length (name ++ block))) + length (name ++ block) = length-append (varint (length (name ++ block))) (name ++ block) in
     all ∙ ap (λ n. length (varint n) + n) body
-
--- an entry is its parts
-pub entry_same : (e : EntryParts) (place : ℕ) (s : Section) → e.hash_code ≡ s.0.hash_code → e.digest ≡ s.0.digest → e.offset ≡ place → e ≡ entry_of place s
-entry_same e place s p q r = λ i. record { hash_code = p i; digest = q i; offset = r i }
 
 -- all sections were gathered
 pub gathered : (ss : List Section) (old new : Gathering) → TookEach GathersNext old ss new → (new.entries.items ≡ old.entries.items ++ entries_of old.place ss) × (new.place ≡ old.place + length (flat_map section_bytes ss))

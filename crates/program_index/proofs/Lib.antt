@@ -2,7 +2,6 @@ mod Spanning
 mod Copying
 mod Gathering
 mod Sending
-mod Headers
 mod Sought
 mod Placed
 mod Finding

@@ -7,8 +7,6 @@ use Rattle.ipld_links.specs.Verdicts.{IsVerified}
 use Rattle.ipld_links.specs.Reaching.{Stored, stored_in}
 use Rattle.ipld_links.proofs.Members.{at_same, same_at}
 use Rattle.program_parts.specs.Holding.{PutsBack}
-use Rattle.program_parts.proofs.Known.{if_some}
-use Rattle.program_index.specs.Finds.{IsListed}
 use Rattle.program_index.specs.Layouts.{HasIndex}
 use Rattle.program_index.specs.Ways.{AreLedTo, HoldsMore, LooksUp}
 
@@ -34,15 +32,6 @@ held_before bytes_of (Some a) known name stored is there h = record {
   keeps = λ q b e. e;
   index = (h name (bytes_of a) (sym is)).1;
   unlisted = λ none. absurd (nothing (sym none ∙ sym is));
-}
-
--- the index lists none
-pub held_none : (known : Option (List ℕ)) (name : CidParts) (stored : Stored) → IfSome known (λ b. HasIndex b × ¬ IsListed b name) → AreLedTo known stored → HoldsMore known name stored stored
-held_none known name stored none h = record {
-  led = h;
-  keeps = λ q b e. e;
-  index = if_some known none (λ b k. k.0);
-  unlisted = λ free. if_some known none (λ b k. k.1);
 }
 
 -- it is put there

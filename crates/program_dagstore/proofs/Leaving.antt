@@ -1,6 +1,5 @@
 -- Roots that have no block.
-use Rattle.std.proofs.Common.{◌≡◌, inl, inr, ℕ, ◌+◌, ◌≤◌, ◌<◌, List, [], ◌∷◌, ◌++◌, length, take, get_or, take-suc, add-one, refl, sym, ap, ◌∙◌, subst, arith, Vec, Global, Result, Ok, Err, IfOk}
-use Rattle.std.proofs.Math.Seq.{take-length}
+use Rattle.std.proofs.Common.{◌≡◌, inl, inr, ℕ, ◌+◌, ◌<◌, List, [], ◌∷◌, ◌++◌, length, take, get_or, take-suc, add-one, refl, sym, ap, ◌∙◌, subst, Vec, Global, Result, Ok, Err, IfOk}
 use Rattle.sqlite_trees.specs.Tree.{Trees}
 use Rattle.sqlite_trees.specs.View.{View}
 use Rattle.ipld_tree.specs.Cid.{CidParts}
@@ -28,11 +27,6 @@ left_next v names i c lacking within is h has = subst (λ ns. LeavesStored v ns 
 
 pub kept_next : (v : View) (names : List CidParts) (i : ℕ) (c : CidParts) (lacking : List CidParts) → i < length names → c ≡ get_or names i c → LeavesStored v (take i names) lacking → (HasBlockAt v c → ⊥) → LeavesStored v (take (i + 1) names) (lacking ++ c ∷ [])
 kept_next v names i c lacking within is h not = subst (λ ns. LeavesStored v ns (lacking ++ c ∷ [])) (longer names i c within is) (kept_push (HasBlockAt v) (take i names) lacking c h not)
-
-pub left_all : (v : View) (names : List CidParts) (i : ℕ) (lacking : List CidParts) → i ≤ length names → length names ≤ i → LeavesStored v (take i names) lacking → LeavesStored v names lacking
-left_all v names i lacking below end h =
-    let same : i ≡ length names = omega (arith, below, end) in
-    subst (λ ns. LeavesStored v ns lacking) (ap (λ n. take n names) same ∙ take-length names) h
 
 pub left_same : (old mid : View) (names lacking : List CidParts) → IsSame old mid → LeavesStored mid names lacking → LeavesStored old names lacking
 left_same old mid names lacking same h = subst (λ (t : Trees). LeavesStored (record old { trees = t }) names lacking) same.trees h

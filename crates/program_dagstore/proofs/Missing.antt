@@ -22,7 +22,7 @@ use Rattle.dagcbor_decode.proofs.Laws.{refused_no_block}
 use Rattle.ipld_links.proofs.Within.{reached_cid, not_inline}
 use Rattle.ipld_links.proofs.Members.{among_push, push_among, among_map, map_among}
 use Rattle.store_on_disk.specs.Rows.{name_tree, IsListed, IsStored}
-use Rattle.store_on_disk.specs.Stored.{IsNamedBy, IsAfter, IsNext, IsSame, HoldsOnly, IsDamaged, ListsName}
+use Rattle.store_on_disk.specs.Stored.{IsNamedBy, IsAfter, IsNext, IsSame, HoldsOnly, ListsName}
 use Rattle.store_on_disk.specs.Lost.{NamesNoneListed, AddsLost, IsReachedIn}
 use Rattle.store_on_disk.proofs.Walking.{holds_same, damaged_same}
 use Rattle.program_dagstore.specs.Names.{AreAll}
@@ -43,9 +43,6 @@ adds_block v c b old new only named a q = (
 
 adds_none : (v : View) (c : CidParts) (s : BTreeSet CidParts) → ((q : CidParts) → LinksTo v c q → ⊥) → AddsUnlistedLinks v c s s
 adds_none v c s none q = (λ m. inl m, λ k. elim k [ inl o ↦ o | inr u ↦ absurd (none q u.0) ])
-
-pub adds_damaged : (v : View) (c : CidParts) (s : BTreeSet CidParts) → IsDamaged v c → AddsUnlistedLinks v c s s
-adds_damaged v c s damaged = adds_none v c s (λ q l. damaged.1 l.0 l.1 l.2)
 
 pub adds_refused : (v : View) (c : CidParts) (b : List ℕ) (s : BTreeSet CidParts) → HoldsOnly v c b → (IsBlockOf c.codec b → ⊥) → AddsUnlistedLinks v c s s
 adds_refused v c b s only not = adds_none v c s (λ q l. let k = subst (λ d. IsReachedIn c.codec d q) (only.1 l.0 l.1) l.3 in not (k.0, k.1))

@@ -1,7 +1,6 @@
 -- How texts are written one after the other.
 use Rattle.std.proofs.Common.{◌≡◌, inl, inr, ℕ, List, [], ◌∷◌, ◌++◌, refl, sym, ap, ◌∙◌, subst, append_assoc, codes, decimal, Option, Result, Ok, Err, IsErrAnd}
-use Rattle.std.proofs.KnownBytes.{Appends-nil, Appends-trans}
-use Rattle.dagcbor_core.specs.Appends.{AppendsFront}
+use Rattle.std.proofs.KnownBytes.{Appends-trans}
 use Rattle.ipld_tree.specs.Cid.{CidParts}
 use Rattle.text_cid.specs.Texts.{cid_text}
 use Rattle.program_parts.specs.Lines.{BreaksLine}
@@ -52,7 +51,3 @@ module _ {A : Type 0} where
     where
       whole : t ++ ((a ++ b) ++ 10 ∷ []) ≡ (cid_text name ++ (first ++ second)) ++ 10 ∷ []
       whole = ap (λ z. z ++ ((a ++ b) ++ 10 ∷ [])) is ∙ ap (λ z. cid_text name ++ ((z ++ b) ++ 10 ∷ [])) one ∙ ap (λ z. cid_text name ++ ((first ++ z) ++ 10 ∷ [])) two ∙ sym (append_assoc (cid_text name) (first ++ second) (10 ∷ []))
-
--- the empty text is a prefix of a text
-pub nothing_told : (heard : Option (List ℕ)) (text : List ℕ) → AppendsFront heard heard text
-nothing_told heard text = ([], text, refl, Appends-nil heard)

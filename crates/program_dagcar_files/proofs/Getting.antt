@@ -1,22 +1,6 @@
 -- What `get` writes past an index.
-use Rattle.std.proofs.Common.{◌≡◌, ℕ, List, [], Bool, true, false, inl, inr, subst, Option, None, Some, IfSome, drop, Result, Ok, Err, IfOk}
+use Rattle.std.proofs.Common.{◌≡◌, ℕ, List, subst, Option, None, Some, IfSome, drop, Result, Ok, Err, IfOk}
 use Rattle.std.specs.Option.{option_map}
-use Rattle.ipld_tree.specs.Cid.{CidParts}
-use Rattle.program_dagcar.specs.Finding.{IsGot}
-use Rattle.program_dagcar_files.specs.Gets.{no_entry_line, IsGotPast}
-
--- there is no error line if the block was found
-untold : (name : CidParts) (b out told : List ℕ) → IsGot name b true out told → told ≡ []
-untold name b out told (inl k) = k.8
-untold name b out told (inr k) = let clash : true ≡ false = k.0 in cc clash
-
-pub past_true : (name : CidParts) (b : List ℕ) (well : Bool) (out told line : List ℕ) → well ≡ true → line ≡ no_entry_line → IsGot name b well out told → IsGotPast name b well out line
-past_true name b well out told line is tells h =
-    let got : IsGot name b true out told = subst (λ w. IsGot name b w out told) is h in
-    inl (is, tells, subst (IsGot name b true out) (untold name b out told got) got)
-
-pub past_false : (name : CidParts) (b : List ℕ) (well : Bool) (out told : List ℕ) → well ≡ false → IsGot name b well out told → IsGotPast name b well out told
-past_false name b well out told is h = inr (is, subst (λ w. IsGot name b w out told) is h)
 
 -- what is known from two facts
 pub both_known : {P Q R : List ℕ → Type 0} (known : Option (List ℕ)) → IfSome known P → IfSome known Q → ((b : List ℕ) → P b → Q b → R b) → IfSome known R

@@ -37,10 +37,6 @@ counted_more s old new takes h roots sections k =
     let told = k.1.0 in
     (takes roots sections k.0, (told ++ (s, h.0) ∷ [], sections_push told (s, h.0) ∙ ap (λ ss. ss ++ s ∷ []) k.1.1, told_push told (s, h.0) k.1.2 h.1, counts_push told s h.0 old.counts new.counts k.1.3 h.2))
 
-pub counted_anyway : {X E : Type 0} (s : Section) (old new : Summing) (r : Result X E) → OnOk r (TakesSection s old.check new.check) → OnOk r ((v : Verdict) × IsVerdict s v × CountsOne v old.counts new.counts) → OnOk r (KnowsMore KnowsCounts s old new)
-counted_anyway s old new (Ok x) takes h = counted_more s old new takes h
-counted_anyway s old new (Err e) takes h = tt
-
 -- one after the other
 pub join : (old mid new a b : List ℕ) → mid ≡ old ++ a → new ≡ mid ++ b → new ≡ old ++ (a ++ b)
 join old mid new a b h k = k ∙ ap (λ x. x ++ b) h ∙ append_assoc old a b

@@ -6,8 +6,12 @@ ghost use Rattle.sqlite_trees.specs.View.{IsClean};
 ghost use Rattle.store_rows.specs.Ends.{Quiet, KeepsOthers, IsOfBlocks};
 ghost use Rattle.store_on_disk.specs.Stored.{StaysSame, FailsByStore, IsKeptBy};
 ghost use Rattle.store_on_disk.specs.Leaving.{StillLeavesStore};
-ghost use Rattle.store_on_disk.specs.Trees.{GetsKnown, StopsAt, AtName, ReachesBeside, AtMetBeside, IsShownToWalk, VisitsShown};
-ghost use Rattle.store_on_disk.specs.Collecting.{KeepsReachable, IsCollected, CollectRefused, HasBlockAt, HaveBlocks, BlocksLacking, AtRooted, CollectsAll, MarksRoots, Marks, MarksMore, AtMarked, SweepsNext, IsSwept};
+ghost use Rattle.store_on_disk.specs.Trees.{GetsKnown, StopsAt, AtName, ReachesBeside, AtMetBeside};
+ghost use Rattle.store_on_disk.specs.Trees.{IsShownToWalk, VisitsShown};
+ghost use Rattle.store_on_disk.specs.Collecting.{KeepsReachable, IsCollected, CollectRefused};
+ghost use Rattle.store_on_disk.specs.Collecting.{HasBlockAt, HaveBlocks, BlocksLacking, AtRooted};
+ghost use Rattle.store_on_disk.specs.Collecting.{CollectsAll, MarksRoots, Marks, MarksMore};
+ghost use Rattle.store_on_disk.specs.Collecting.{AtMarked, SweepsNext, IsSwept};
 
 use crate::error::StoreRefusal;
 use crate::store::BlockStore;
@@ -40,10 +44,15 @@ impl<S: Store> BlockStore<S> {
     /// blocks they lead to would be lost. One block is in memory at a time, with the names that are
     /// kept.
     pub fn keep_reachable(&mut self, roots: &[Cid]) -> Result<u64, StoreRefusal>
-        ensures ok { IfOk result (λ count. IsClean (S.Store.view self.new) → IsCollected (S.Store.view self.old) (S.Store.view self.new) roots.now count) }
+        ensures ok { IfOk result (λ count. IsClean (S.Store.view self.new)
+            → IsCollected (S.Store.view self.old) (S.Store.view self.new) roots.now count) }
         ensures refused { IfErr result (CollectRefused S.Store roots.now self.old self.new) }
-        ensures crash { (db : _) → S.Store.recovers self.new db → S.Store.recovers self.old db ⊎ (IsClean (S.Store.view self.new) → KeepsReachable (S.Store.view self.old) roots.now db) }
-        ensures beside { (db : _) → S.Store.recovers self.new db → S.Store.recovers self.old db ⊎ (IsClean (S.Store.view self.new) → KeepsOthers IsOfBlocks (S.Store.view self.old).trees db) }
+        ensures crash { (db : _) → S.Store.recovers self.new db → S.Store.recovers self.old db
+            ⊎ (IsClean (S.Store.view self.new)
+            → KeepsReachable (S.Store.view self.old) roots.now db) }
+        ensures beside { (db : _) → S.Store.recovers self.new db → S.Store.recovers self.old db
+            ⊎ (IsClean (S.Store.view self.new)
+            → KeepsOthers IsOfBlocks (S.Store.view self.old).trees db) }
         ensures leaves { StillLeavesStore S.Store self.old self.new }
         ensures kept { IsKeptBy S.Store self.old self.new }
     {
@@ -56,7 +65,8 @@ impl<S: Store> BlockStore<S> {
     /// Returns the names that links lead to from the roots and under which bytes are stored. Each
     /// root must have a block.
     fn mark_roots(&mut self, roots: &[Cid]) -> Result<BTreeSet<Cid>, StoreRefusal>
-        ensures ok { IfOk result (λ kept. IsClean (S.Store.view self.new) → MarksRoots (S.Store.view self.old) roots.now kept) }
+        ensures ok { IfOk result (λ kept. IsClean (S.Store.view self.new)
+            → MarksRoots (S.Store.view self.old) roots.now kept) }
         ensures same { OnOk result (StaysSame S.Store self.old self.new) }
         ensures refused { IfErr result (CollectRefused S.Store roots.now self.old self.new) }
         ensures quiet { Quiet S.Store self.old self.new }
@@ -67,7 +77,8 @@ impl<S: Store> BlockStore<S> {
 
     /// Refuses the first root that has no block.
     fn check_roots(&mut self, roots: &[Cid]) -> Result<(), StoreRefusal>
-        ensures ok { OnOk result (IsClean (S.Store.view self.new) → HaveBlocks (S.Store.view self.old) roots.now) }
+        ensures ok { OnOk result (IsClean (S.Store.view self.new)
+            → HaveBlocks (S.Store.view self.old) roots.now) }
         ensures same { OnOk result (StaysSame S.Store self.old self.new) }
         ensures refused { IfErr result (BlocksLacking S.Store (λ n. Among n roots.now) self.old self.new) }
         ensures quiet { Quiet S.Store self.old self.new }
@@ -80,7 +91,8 @@ impl<S: Store> BlockStore<S> {
 
     /// Refuses a root if nothing is listed under it and its CID does not hold a block inline.
     fn check_root(&mut self, root: &Cid) -> Result<(), StoreRefusal>
-        ensures ok { OnOk result (IsClean (S.Store.view self.new) → HasBlockAt (S.Store.view self.old) root.now) }
+        ensures ok { OnOk result (IsClean (S.Store.view self.new)
+            → HasBlockAt (S.Store.view self.old) root.now) }
         ensures same { OnOk result (StaysSame S.Store self.old self.new) }
         ensures refused { IfErr result (BlocksLacking S.Store (λ n. n ≡ root.now) self.old self.new) }
         ensures quiet { Quiet S.Store self.old self.new }
@@ -98,7 +110,8 @@ impl<S: Store> BlockStore<S> {
 
     /// Returns the names that links lead to from the roots and under which bytes are stored.
     fn mark(&mut self, roots: &[Cid]) -> Result<BTreeSet<Cid>, StoreRefusal>
-        ensures ok { IfOk result (λ kept. IsClean (S.Store.view self.new) → Marks (S.Store.view self.old) roots.now kept) }
+        ensures ok { IfOk result (λ kept. IsClean (S.Store.view self.new)
+            → Marks (S.Store.view self.old) roots.now kept) }
         ensures same { OnOk result (StaysSame S.Store self.old self.new) }
         ensures refused { IfErr result (StopsAt S.Store (AtRooted roots.now) self.old self.new) }
         ensures quiet { Quiet S.Store self.old self.new }
@@ -112,7 +125,8 @@ impl<S: Store> BlockStore<S> {
 
     /// Adds the names that one more root leads to.
     fn mark_from(&mut self, root: &Cid, kept: &mut BTreeSet<Cid>) -> Result<(), StoreRefusal>
-        ensures ok { OnOk result (IsClean (S.Store.view self.new) → MarksMore (S.Store.view self.old) root.now kept.old kept.new) }
+        ensures ok { OnOk result (IsClean (S.Store.view self.new)
+            → MarksMore (S.Store.view self.old) root.now kept.old kept.new) }
         ensures same { OnOk result (StaysSame S.Store self.old self.new) }
         ensures refused { IfErr result (StopsAt S.Store (AtMarked root.now kept.old) self.old self.new) }
         ensures quiet { Quiet S.Store self.old self.new }
@@ -131,7 +145,8 @@ impl<S: Store> BlockStore<S> {
         root: &Cid,
         kept: &BTreeSet<Cid>,
     ) -> Result<Reached, StoreRefusal>
-        ensures ok { IfOk result (λ r. IsClean (S.Store.view self.new) → ReachesBeside (S.Store.view self.old) kept.now root.now r) }
+        ensures ok { IfOk result (λ r. IsClean (S.Store.view self.new)
+            → ReachesBeside (S.Store.view self.old) kept.now root.now r) }
         ensures same { OnOk result (StaysSame S.Store self.old self.new) }
         ensures refused { IfErr result (StopsAt S.Store (AtMetBeside root.now kept.now) self.old self.new) }
         ensures quiet { Quiet S.Store self.old self.new }
@@ -155,7 +170,8 @@ impl<S: Store> BlockStore<S> {
         kept: &BTreeSet<Cid>,
         walk: &mut Walk,
     ) -> Result<(), StoreRefusal>
-        ensures ok { OnOk result (IsClean (S.Store.view self.new) → VisitsShown (S.Store.view self.old) kept.now name walk.old walk.new) }
+        ensures ok { OnOk result (IsClean (S.Store.view self.new)
+            → VisitsShown (S.Store.view self.old) kept.now name walk.old walk.new) }
         ensures same { OnOk result (StaysSame S.Store self.old self.new) }
         ensures refused { IfErr result (StopsAt S.Store (AtName name) self.old self.new) }
         ensures quiet { Quiet S.Store self.old self.new }
@@ -170,7 +186,9 @@ impl<S: Store> BlockStore<S> {
     /// Returns empty bytes if the name is in the set, so that a walk goes no further, and else its
     /// block.
     fn shown(&mut self, name: &Cid, kept: &BTreeSet<Cid>) -> Result<Option<Vec<u8>>, StoreRefusal>
-        ensures ok { IfOk result (λ o. IsClean (S.Store.view self.new) → IsShownToWalk (S.Store.view self.old) kept.now name.now (option_map (λ b. b.items) o)) }
+        ensures ok { IfOk result (λ o. IsClean (S.Store.view self.new)
+            → IsShownToWalk (S.Store.view self.old) kept.now name.now
+            (option_map (λ b. b.items) o)) }
         ensures same { OnOk result (StaysSame S.Store self.old self.new) }
         ensures refused { IfErr result (StopsAt S.Store (AtName name.now) self.old self.new) }
         ensures quiet { Quiet S.Store self.old self.new }
@@ -184,7 +202,8 @@ impl<S: Store> BlockStore<S> {
     /// Returns what `get_block` does, but refuses with `LinksUnread` if the block's links are not
     /// known.
     pub(crate) fn get_known(&mut self, name: &Cid) -> Result<Option<Vec<u8>>, StoreRefusal>
-        ensures ok { IfOk result (λ o. IsClean (S.Store.view self.new) → GetsKnown (S.Store.view self.old) name.now (option_map (λ b. b.items) o)) }
+        ensures ok { IfOk result (λ o. IsClean (S.Store.view self.new)
+            → GetsKnown (S.Store.view self.old) name.now (option_map (λ b. b.items) o)) }
         ensures same { OnOk result (StaysSame S.Store self.old self.new) }
         ensures refused { IfErr result (StopsAt S.Store (AtName name.now) self.old self.new) }
         ensures quiet { Quiet S.Store self.old self.new }
@@ -198,7 +217,8 @@ impl<S: Store> BlockStore<S> {
 
     /// Removes each name that is not in the set, with its block. Returns how many were removed.
     fn sweep(&mut self, kept: &BTreeSet<Cid>) -> Result<u64, StoreRefusal>
-        ensures ok { IfOk result (λ count. IsClean (S.Store.view self.new) → IsSwept (S.Store.view self.old) (S.Store.view self.new) kept.now count) }
+        ensures ok { IfOk result (λ count. IsClean (S.Store.view self.new)
+            → IsSwept (S.Store.view self.old) (S.Store.view self.new) kept.now count) }
         ensures refused { IfErr result (FailsByStore S.Store ⊥ self.old self.new) }
         ensures quiet { Quiet S.Store self.old self.new }
     {
@@ -223,7 +243,8 @@ impl<S: Store> BlockStore<S> {
         last: Option<Cid>,
         kept: &BTreeSet<Cid>,
     ) -> Result<Option<(Cid, bool)>, StoreRefusal>
-        ensures ok { IfOk result (λ next. IsClean (S.Store.view self.new) → SweepsNext (S.Store.view self.old) (S.Store.view self.new) last kept.now next) }
+        ensures ok { IfOk result (λ next. IsClean (S.Store.view self.new)
+            → SweepsNext (S.Store.view self.old) (S.Store.view self.new) last kept.now next) }
         ensures refused { IfErr result (FailsByStore S.Store ⊥ self.old self.new) }
         ensures quiet { Quiet S.Store self.old self.new }
     {

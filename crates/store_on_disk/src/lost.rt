@@ -7,7 +7,9 @@ ghost use Rattle.ipld_links.specs.Blocks.{IsBlockOf};
 ghost use Rattle.sqlite_trees.specs.View.{IsClean};
 ghost use Rattle.store_rows.specs.Ends.{Quiet};
 ghost use Rattle.store_on_disk.specs.Stored.{StaysSame, FailsByStore};
-ghost use Rattle.store_on_disk.specs.Lost.{ListsLostLinks, LostRefused, AddsLost, AddsUnlisted, AddsNames, AddsLostLinks, ListsKeys, GrowsByLost, IsReachedIn};
+ghost use Rattle.store_on_disk.specs.Lost.{ListsLostLinks, LostRefused, AddsLost, AddsUnlisted};
+ghost use Rattle.store_on_disk.specs.Lost.{AddsNames, AddsLostLinks, ListsKeys, GrowsByLost};
+ghost use Rattle.store_on_disk.specs.Lost.{IsReachedIn};
 
 use crate::error::StoreRefusal;
 use crate::store::BlockStore;
@@ -34,7 +36,8 @@ impl<S: Store> BlockStore<S> {
     /// in that block are followed. It refuses with `LinksUnread` if the links of a block are not
     /// known. One block is in memory at a time, besides the links that are returned.
     pub fn lost(&mut self) -> Result<Vec<Cid>, StoreRefusal>
-        ensures lists { IfOk result (λ v. IsClean (S.Store.view self.new) → ListsLostLinks (S.Store.view self.old) v.items) }
+        ensures lists { IfOk result (λ v. IsClean (S.Store.view self.new)
+            → ListsLostLinks (S.Store.view self.old) v.items) }
         ensures same { OnOk result (StaysSame S.Store self.old self.new) }
         ensures refused { IfErr result (LostRefused S.Store self.old self.new) }
         ensures quiet { Quiet S.Store self.old self.new }
@@ -60,7 +63,8 @@ impl<S: Store> BlockStore<S> {
         last: Option<Cid>,
         lost: &mut BTreeSet<Cid>,
     ) -> Result<Option<Cid>, StoreRefusal>
-        ensures ok { IfOk result (λ next. IsClean (S.Store.view self.new) → AddsLostLinks (S.Store.view self.old) last lost.old next lost.new) }
+        ensures ok { IfOk result (λ next. IsClean (S.Store.view self.new)
+            → AddsLostLinks (S.Store.view self.old) last lost.old next lost.new) }
         ensures same { OnOk result (StaysSame S.Store self.old self.new) }
         ensures refused { IfErr result (LostRefused S.Store self.old self.new) }
         ensures quiet { Quiet S.Store self.old self.new }
@@ -88,7 +92,8 @@ impl<S: Store> BlockStore<S> {
         lost: &mut BTreeSet<Cid>,
     ) -> Result<(), StoreRefusal>
         requires { IsBlockOf codec block.now }
-        ensures ok { OnOk result (IsClean (S.Store.view self.new) → AddsLost (S.Store.view self.old) codec block.now lost.old lost.new) }
+        ensures ok { OnOk result (IsClean (S.Store.view self.new)
+            → AddsLost (S.Store.view self.old) codec block.now lost.old lost.new) }
         ensures grows { GrowsByLost (IsReachedIn codec block.now) lost.old lost.new }
         ensures same { OnOk result (StaysSame S.Store self.old self.new) }
         ensures refused { IfErr result (FailsByStore S.Store ⊥ self.old self.new) }
@@ -102,7 +107,8 @@ impl<S: Store> BlockStore<S> {
 
     /// Adds the names that are not listed.
     fn add_unlisted(&mut self, names: &[Cid], lost: &mut BTreeSet<Cid>) -> Result<(), StoreRefusal>
-        ensures ok { OnOk result (IsClean (S.Store.view self.new) → AddsNames (S.Store.view self.old) names.now lost.old lost.new) }
+        ensures ok { OnOk result (IsClean (S.Store.view self.new)
+            → AddsNames (S.Store.view self.old) names.now lost.old lost.new) }
         ensures grows { GrowsByLost (λ q. Among q names.now) lost.old lost.new }
         ensures same { OnOk result (StaysSame S.Store self.old self.new) }
         ensures refused { IfErr result (FailsByStore S.Store ⊥ self.old self.new) }
@@ -115,7 +121,8 @@ impl<S: Store> BlockStore<S> {
     }
 
     fn add_if_unlisted(&mut self, name: &Cid, lost: &mut BTreeSet<Cid>) -> Result<(), StoreRefusal>
-        ensures ok { OnOk result (IsClean (S.Store.view self.new) → AddsUnlisted (S.Store.view self.old) name.now lost.old lost.new) }
+        ensures ok { OnOk result (IsClean (S.Store.view self.new)
+            → AddsUnlisted (S.Store.view self.old) name.now lost.old lost.new) }
         ensures grows { GrowsByLost (λ q. q ≡ name.now) lost.old lost.new }
         ensures same { OnOk result (StaysSame S.Store self.old self.new) }
         ensures refused { IfErr result (FailsByStore S.Store ⊥ self.old self.new) }

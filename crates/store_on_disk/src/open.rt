@@ -15,7 +15,8 @@ ghost use Rattle.sqlite_store.specs.Unopened.{AreUsable, files_of, state_of, wan
 ghost use Rattle.store_on_disk.specs.Stored.{IsKeptBy};
 ghost use Rattle.store_on_disk.specs.Opened.{HasTrees, IsChecked, IsMoved, IsOpened, IsSettled, OnlyMarks};
 ghost use Rattle.store_on_disk.specs.Leaving.{IsStoreSchema, LeavesStore, LeavesAsListed, IsSpared};
-ghost use Rattle.store_on_disk.specs.Left.{store_objects, IsRowOfObject, ListsObjects, NamesSize, IsLeft, IsFresh, HoldsLeft, HasStore};
+ghost use Rattle.store_on_disk.specs.Left.{store_objects, IsRowOfObject, ListsObjects, NamesSize};
+ghost use Rattle.store_on_disk.specs.Left.{IsLeft, IsFresh, HoldsLeft, HasStore};
 
 use crate::error::StoreRefusal;
 use crate::store::{BlockStore, bad_entry, bad_root};
@@ -77,8 +78,11 @@ fn check<S: Alter>(
     store: &mut S,
     row: &mut Row,
 ) -> Result<Result<(), StoreRefusal>, StoreError>
-    ensures ok { IfOk result (λ judged. IsClean (S.Store.view store.new) → OnOk judged (IsChecked (S.Store.view store.old) (S.Store.view store.new))) }
-    ensures crash { (db : _) → S.Store.recovers store.new db → S.Store.recovers store.old db ⊎ (IsClean (S.Store.view store.new) → IsTrue (S.Store.view store.old).is_open × OnlyMarks (S.Store.view store.old).trees db) }
+    ensures ok { IfOk result (λ judged. IsClean (S.Store.view store.new)
+        → OnOk judged (IsChecked (S.Store.view store.old) (S.Store.view store.new))) }
+    ensures crash { (db : _) → S.Store.recovers store.new db → S.Store.recovers store.old db
+        ⊎ (IsClean (S.Store.view store.new)
+        → IsTrue (S.Store.view store.old).is_open × OnlyMarks (S.Store.view store.old).trees db) }
     ensures kept { IsKeptBy S.Store store.old store.new }
 {
     let Some(version) = version_of(store) else {
@@ -105,7 +109,8 @@ impl<S: Alter + Drop> BlockStore<S> {
     /// Takes a database, and undoes what is not committed in it. One that is not a store is given
     /// back with `NotAStore`, `BadEntry` or `BadRoot`.
     pub fn over(alloc: Global, mut store: S) -> Result<BlockStore<S>, (StoreRefusal, S)>
-        ensures ok { IfOk result (λ it. IsClean (S.Store.view it) → IsOpened (S.Store.view store) (S.Store.view it)) }
+        ensures ok { IfOk result (λ it. IsClean (S.Store.view it)
+            → IsOpened (S.Store.view store) (S.Store.view it)) }
         ensures kept { IfOk result (IsKeptBy S.Store store) }
         ensures leaves { IfOk result (LeavesAsListed S.Store store) }
         ensures unharmed { IfErr result (λ e. IsKeptBy S.Store store e.1) }
@@ -126,7 +131,8 @@ impl<S: Alter + Drop> BlockStore<S> {
 
 /// Takes a database as `over` does, and drops it if it is refused.
 fn opened<S: Alter + Drop>(alloc: Global, store: S) -> Result<BlockStore<S>, StoreRefusal>
-    ensures ok { IfOk result (λ it. IsClean (S.Store.view it) → IsOpened (S.Store.view store) (S.Store.view it)) }
+    ensures ok { IfOk result (λ it. IsClean (S.Store.view it)
+        → IsOpened (S.Store.view store) (S.Store.view it)) }
     ensures leaves { IfOk result (LeavesAsListed S.Store store) }
 {
     let taken = BlockStore::over(alloc, store);
@@ -143,7 +149,8 @@ fn opened<S: Alter + Drop>(alloc: Global, store: S) -> Result<BlockStore<S>, Sto
 /// is not that of its trees.
 fn trusted<S: Alter + Drop>(alloc: Global, store: S) -> Result<BlockStore<S>, StoreRefusal>
     requires fresh { IsClean (S.Store.view store) → IsFresh (S.Store.view store) }
-    ensures ok { IfOk result (λ it. IsClean (S.Store.view it) → IsOpened (S.Store.view store) (S.Store.view it)) }
+    ensures ok { IfOk result (λ it. IsClean (S.Store.view it)
+        → IsOpened (S.Store.view store) (S.Store.view it)) }
     ensures leaves { IfOk result (LeavesAsListed S.Store store) }
 {
     let Some(version) = version_of(&store) else {
@@ -352,7 +359,8 @@ fn open_listed<D: Disk + Drop>(
 ) -> Result<BlockStore<FileStore<D>>, StoreRefusal>
     requires usable { AreUsable found }
     requires schema { IsStoreSchema (wanted_by found) }
-    requires ours { depth ≡ Depth.Schema → IsTrue (state_of found).is_clean → ListsObjects store_objects rows.now → HasStore found }
+    requires ours { depth ≡ Depth.Schema → IsTrue (state_of found).is_clean
+        → ListsObjects store_objects rows.now → HasStore found }
     ensures settled { IfOk result (λ it. IsClean (view it) → IsSettled (view it)) }
     ensures leaves { IfOk result (λ it. IsClean (view it) → LeavesStore recovers it) }
 {

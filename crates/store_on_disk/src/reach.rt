@@ -18,7 +18,8 @@ impl<S: Store> BlockStore<S> {
     /// and the names under which nothing is listed. It refuses with `LinksUnread` if it comes to a
     /// block whose links are not known. One block is in memory at a time, with all the names.
     pub fn reach(&mut self, root: &Cid) -> Result<Reached, StoreRefusal>
-        ensures reached { IfOk result (λ r. IsClean (S.Store.view self.new) → Reaches (S.Store.view self.old) root.now r) }
+        ensures reached { IfOk result (λ r. IsClean (S.Store.view self.new)
+            → Reaches (S.Store.view self.old) root.now r) }
         ensures same { OnOk result (StaysSame S.Store self.old self.new) }
         ensures refused { IfErr result (ReachRefused S.Store root.now self.old self.new) }
         ensures quiet { Quiet S.Store self.old self.new }

@@ -45,14 +45,20 @@ impl<S: Store> BlockStore<S> {
         input: &mut Input<'de, R>,
     ) -> Result<(Vec<Cid>, u64), ReadCarError<R::Error>>
         ensures ok { IfOk result (λ p. (sections : List CarSection) × (p.1 ≡ length sections)
-            × IsFileRead (forms p.0.items) sections (input_reading R.reading input.old) (input_reading R.reading input.new)
-            × (IsClean (S.Store.view self.new) → IsFilled (S.Store.view self.old) (S.Store.view self.new) sections)) }
-        ensures roots { IfOk result (λ p. IsClean (S.Store.view self.new) → GainsRoots (S.Store.view self.old).trees (S.Store.view self.new).trees p.0.items) }
+            × IsFileRead (forms p.0.items) sections (input_reading R.reading input.old)
+            (input_reading R.reading input.new)
+            × (IsClean (S.Store.view self.new)
+            → IsFilled (S.Store.view self.old) (S.Store.view self.new) sections)) }
+        ensures roots { IfOk result (λ p. IsClean (S.Store.view self.new)
+            → GainsRoots (S.Store.view self.old).trees (S.Store.view self.new).trees p.0.items) }
         ensures table { IfOk result (λ p. MayKeepRoots (S.Store.view self.old) p.0.items) }
-        ensures refused { IfErr result (λ e. ReadRefused S.Store (input_reading R.reading input.old) self.old e (input_reading R.reading input.new) self.new) }
-        ensures undone { OnErr result (IsClean (S.Store.view self.new) → IsUndone (S.Store.view self.old) (S.Store.view self.new)) }
+        ensures refused { IfErr result (λ e. ReadRefused S.Store (input_reading R.reading input.old)
+            self.old e (input_reading R.reading input.new) self.new) }
+        ensures undone { OnErr result (IsClean (S.Store.view self.new)
+            → IsUndone (S.Store.view self.old) (S.Store.view self.new)) }
         ensures crash { (db : _) → S.Store.recovers self.new db → S.Store.recovers self.old db
-            ⊎ (IsClean (S.Store.view self.new) → MayLeave (input_reading R.reading input.old) (input_reading R.reading input.new) (S.Store.view self.old).trees db) }
+            ⊎ (IsClean (S.Store.view self.new) → MayLeave (input_reading R.reading input.old)
+            (input_reading R.reading input.new) (S.Store.view self.old).trees db) }
         ensures leaves { StillLeavesStore S.Store self.old self.new }
         ensures kept { IsKeptBy S.Store self.old self.new }
     {
@@ -73,7 +79,8 @@ impl<S: Store> BlockStore<S> {
         &mut self,
         input: &mut Input<'de, R>,
     ) -> Result<(Vec<Cid>, u64), ReadCarError<R::Error>>
-        ensures adds { AddsCar S.Store (input_reading R.reading input.old) self.old result (input_reading R.reading input.new) self.new }
+        ensures adds { AddsCar S.Store (input_reading R.reading input.old) self.old result
+            (input_reading R.reading input.new) self.new }
         ensures quiet { Quiet S.Store self.old self.new }
     {
         let (roots, mut left) = match pull_header(self.alloc, input) {

@@ -4,7 +4,9 @@ ghost use Rattle.std.specs.Prelude.{◌≡◌, [], ◌∷◌, IfOk, IfErr, OnOk}
 ghost use Rattle.sqlite_trees.specs.View.{IsClean, KeepsSchema};
 ghost use Rattle.store_rows.specs.Ends.{Quiet};
 ghost use Rattle.store_on_disk.specs.Stored.{StaysSame, FailsByStore};
-ghost use Rattle.store_on_disk.specs.Roots.{HasRoots, IsRootTaken, KeepsRoots, MayKeepRoots, AreRootsAdded, RootsRefused, HasJust, KnowsRoots, IsRootAdded, RootRefused};
+ghost use Rattle.store_on_disk.specs.Roots.{HasRoots, IsRootTaken, KeepsRoots, MayKeepRoots};
+ghost use Rattle.store_on_disk.specs.Roots.{AreRootsAdded, RootsRefused, HasJust, KnowsRoots};
+ghost use Rattle.store_on_disk.specs.Roots.{IsRootAdded, RootRefused};
 
 use crate::error::StoreRefusal;
 use crate::store::{BlockStore, bad_root, disown, told, undo};
@@ -19,7 +21,8 @@ impl<S: Store> BlockStore<S> {
     /// Returns the roots, in their order. A file of the earlier version has none. It refuses with
     /// `BadRoot` if the table has a row that no store writes.
     pub fn roots(&mut self) -> Result<Vec<Cid>, StoreRefusal>
-        ensures ok { IfOk result (λ names. IsClean (S.Store.view self.new) → HasRoots (S.Store.view self.old) names.items) }
+        ensures ok { IfOk result (λ names. IsClean (S.Store.view self.new)
+            → HasRoots (S.Store.view self.old) names.items) }
         ensures same { OnOk result (StaysSame S.Store self.old self.new) }
         ensures schema { OnOk result (KeepsSchema (S.Store.view self.old) (S.Store.view self.new)) }
         ensures refused { IfErr result (FailsByStore S.Store ⊥ self.old self.new) }
@@ -35,7 +38,8 @@ impl<S: Store> BlockStore<S> {
     /// Makes the name the last root, unless it is a root already, as of the next commit. It is
     /// `add_roots` of this name alone. No block need be stored under it.
     pub fn add_root(&mut self, name: &Cid) -> Result<(), StoreRefusal>
-        ensures ok { OnOk result (IsClean (S.Store.view self.new) → AreRootsAdded (S.Store.view self.old) (S.Store.view self.new) (name.now ∷ [])) }
+        ensures ok { OnOk result (IsClean (S.Store.view self.new)
+            → AreRootsAdded (S.Store.view self.old) (S.Store.view self.new) (name.now ∷ [])) }
         ensures table { OnOk result (KeepsRoots (S.Store.view self.old)) }
         ensures refused { IfErr result (RootsRefused S.Store (name.now ∷ []) self.old self.new) }
         ensures quiet { Quiet S.Store self.old self.new }
@@ -50,7 +54,8 @@ impl<S: Store> BlockStore<S> {
     /// A file of the earlier version keeps no roots (`EarlierVersion`). If the table has a row that
     /// no store writes, it refuses with `BadRoot`.
     pub fn add_roots(&mut self, names: &[Cid]) -> Result<(), StoreRefusal>
-        ensures ok { OnOk result (IsClean (S.Store.view self.new) → AreRootsAdded (S.Store.view self.old) (S.Store.view self.new) names.now) }
+        ensures ok { OnOk result (IsClean (S.Store.view self.new)
+            → AreRootsAdded (S.Store.view self.old) (S.Store.view self.new) names.now) }
         ensures table { OnOk result (MayKeepRoots (S.Store.view self.old) names.now) }
         ensures refused { IfErr result (RootsRefused S.Store names.now self.old self.new) }
         ensures quiet { Quiet S.Store self.old self.new }
@@ -70,7 +75,8 @@ impl<S: Store> BlockStore<S> {
 
     /// Returns the set of the roots.
     fn known_roots(&mut self) -> Result<CidSet, StoreRefusal>
-        ensures ok { IfOk result (λ known. IsClean (S.Store.view self.new) → KnowsRoots (S.Store.view self.old) known) }
+        ensures ok { IfOk result (λ known. IsClean (S.Store.view self.new)
+            → KnowsRoots (S.Store.view self.old) known) }
         ensures same { OnOk result (StaysSame S.Store self.old self.new) }
         ensures schema { OnOk result (KeepsSchema (S.Store.view self.old) (S.Store.view self.new)) }
         ensures refused { IfErr result (FailsByStore S.Store ⊥ self.old self.new) }
@@ -88,8 +94,10 @@ impl<S: Store> BlockStore<S> {
     fn add_unknown(&mut self, name: &Cid, known: &mut CidSet) -> Result<(), StoreRefusal>
         requires table { KeepsRoots (S.Store.view self.old) }
         requires known { IsClean (S.Store.view self.old) → KnowsRoots (S.Store.view self.old) known.old }
-        ensures ok { OnOk result (IsClean (S.Store.view self.new) → IsRootAdded (S.Store.view self.old) (S.Store.view self.new) name.now) }
-        ensures known { OnOk result (IsClean (S.Store.view self.new) → KnowsRoots (S.Store.view self.new) known.new) }
+        ensures ok { OnOk result (IsClean (S.Store.view self.new)
+            → IsRootAdded (S.Store.view self.old) (S.Store.view self.new) name.now) }
+        ensures known { OnOk result (IsClean (S.Store.view self.new)
+            → KnowsRoots (S.Store.view self.new) known.new) }
         ensures shape { OnOk result ((S.Store.view self.new).shape ≡ (S.Store.view self.old).shape) }
         ensures refused { IfErr result (RootRefused S.Store name.now self.old self.new) }
         ensures quiet { Quiet S.Store self.old self.new }
@@ -110,7 +118,8 @@ impl<S: Store> BlockStore<S> {
 
     /// Removes the name from the roots as of the next commit, and returns whether it was one.
     pub fn remove_root(&mut self, name: &Cid) -> Result<bool, StoreRefusal>
-        ensures ok { IfOk result (λ taken. IsClean (S.Store.view self.new) → IsRootTaken (S.Store.view self.old) (S.Store.view self.new) name.now taken) }
+        ensures ok { IfOk result (λ taken. IsClean (S.Store.view self.new)
+            → IsRootTaken (S.Store.view self.old) (S.Store.view self.new) name.now taken) }
         ensures refused { IfErr result (FailsByStore S.Store ⊥ self.old self.new) }
         ensures quiet { Quiet S.Store self.old self.new }
     {

@@ -7,7 +7,11 @@ ghost use Rattle.store_rows.specs.Ends.{Quiet};
 ghost use Rattle.store_rows.specs.Rows.{name_tree};
 ghost use Rattle.sqlite_trees.specs.View.{IsClean, IsRolledBack};
 ghost use Rattle.store_on_disk.specs.Leaving.{StillLeavesStore};
-ghost use Rattle.store_on_disk.specs.Stored.{IsReady, GivesNextName, bound_after, ListsName, StaysSame, IsUndone, IsNamedBy, GetsSome, GetRefused, FailsByStore, TellsOfStore, IsCommitted, IsKeptBy, IsAdded, IsAddedTo, IsPut, IsTaken, PutRefused, AnswersVerified, IsToldAdded, IsBadRow, number_in};
+ghost use Rattle.store_on_disk.specs.Stored.{IsReady, GivesNextName, bound_after, ListsName};
+ghost use Rattle.store_on_disk.specs.Stored.{StaysSame, IsUndone, IsNamedBy, GetsSome, GetRefused};
+ghost use Rattle.store_on_disk.specs.Stored.{FailsByStore, TellsOfStore, IsCommitted, IsKeptBy};
+ghost use Rattle.store_on_disk.specs.Stored.{IsAdded, IsAddedTo, IsPut, IsTaken, PutRefused};
+ghost use Rattle.store_on_disk.specs.Stored.{AnswersVerified, IsToldAdded, IsBadRow, number_in};
 
 use crate::error::StoreRefusal;
 use arrayvec::ArrayVec;
@@ -102,7 +106,8 @@ impl<S: Store> BlockStore<S> {
     /// Returns how many names are listed. It reads the whole index, and refuses with `BadEntry` if
     /// an entry is not one that a store writes.
     pub fn len(&mut self) -> Result<u64, StoreRefusal>
-        ensures ok { IfOk result (λ n. IsClean (S.Store.view self.new) → n ≡ length ((S.Store.view self.old).trees name_tree)) }
+        ensures ok { IfOk result (λ n. IsClean (S.Store.view self.new)
+            → n ≡ length ((S.Store.view self.old).trees name_tree)) }
         ensures same { OnOk result (StaysSame S.Store self.old self.new) }
         ensures refused { IfErr result (FailsByStore S.Store ⊥ self.old self.new) }
         ensures quiet { Quiet S.Store self.old self.new }
@@ -117,7 +122,8 @@ impl<S: Store> BlockStore<S> {
     /// Returns whether something is listed under the name. It may be damaged: `get_block` finds
     /// out.
     pub fn contains(&mut self, name: &Cid) -> Result<bool, StoreRefusal>
-        ensures found { IfOk result (λ found. IsClean (S.Store.view self.new) → (IsTrue found ↔ ListsName (S.Store.view self.old) name.now)) }
+        ensures found { IfOk result (λ found. IsClean (S.Store.view self.new)
+            → (IsTrue found ↔ ListsName (S.Store.view self.old) name.now)) }
         ensures same { OnOk result (StaysSame S.Store self.old self.new) }
         ensures refused { IfErr result (FailsByStore S.Store ⊥ self.old self.new) }
         ensures quiet { Quiet S.Store self.old self.new }
@@ -134,7 +140,8 @@ impl<S: Store> BlockStore<S> {
     /// no more follow. Names are ordered by the bytes of their binary forms. It refuses with
     /// `BadEntry` if the entry is not one that a store writes.
     pub fn next_name(&mut self, last: Option<Cid>) -> Result<Option<Cid>, StoreRefusal>
-        ensures next { IfOk result (λ next. IsClean (S.Store.view self.new) → GivesNextName (S.Store.view self.old) last next) }
+        ensures next { IfOk result (λ next. IsClean (S.Store.view self.new)
+            → GivesNextName (S.Store.view self.old) last next) }
         ensures same { OnOk result (StaysSame S.Store self.old self.new) }
         ensures refused { IfErr result (FailsByStore S.Store ⊥ self.old self.new) }
         ensures quiet { Quiet S.Store self.old self.new }
@@ -152,7 +159,8 @@ impl<S: Store> BlockStore<S> {
     /// bytes always match the name, whatever the disk returned.
     pub fn get_block(&mut self, name: &Cid) -> Result<Option<Vec<u8>>, StoreRefusal>
         ensures verified { IfOk result (λ found. IfSome found (λ b. IsNamedBy name.now b.items)) }
-        ensures found { IfOk result (λ found. IsClean (S.Store.view self.new) → GetsSome (S.Store.view self.old) name.now (option_map (λ b. b.items) found)) }
+        ensures found { IfOk result (λ found. IsClean (S.Store.view self.new)
+            → GetsSome (S.Store.view self.old) name.now (option_map (λ b. b.items) found)) }
         ensures same { OnOk result (StaysSame S.Store self.old self.new) }
         ensures refused { IfErr result (GetRefused S.Store name.now self.old self.new) }
         ensures quiet { Quiet S.Store self.old self.new }
@@ -167,9 +175,11 @@ impl<S: Store> BlockStore<S> {
 
     /// Makes additions and removals durable. If it fails, all of them are undone.
     pub fn commit(&mut self) -> Result<(), StoreRefusal>
-        ensures ok { OnOk result (IsClean (S.Store.view self.new) → IsCommitted (S.Store.view self.old) (S.Store.view self.new)) }
+        ensures ok { OnOk result (IsClean (S.Store.view self.new)
+            → IsCommitted (S.Store.view self.old) (S.Store.view self.new)) }
         ensures refused { IfErr result (FailsByStore S.Store ⊥ self.old self.new) }
-        ensures crash { (db : _) → S.Store.recovers self.new db → (db ≡ (S.Store.view self.old).trees) ⊎ S.Store.recovers self.old db }
+        ensures crash { (db : _) → S.Store.recovers self.new db
+            → (db ≡ (S.Store.view self.old).trees) ⊎ S.Store.recovers self.old db }
         ensures leaves { StillLeavesStore S.Store self.old self.new }
         ensures kept { IsKeptBy S.Store self.old self.new }
     {
@@ -181,7 +191,8 @@ impl<S: Store> BlockStore<S> {
 
     /// Undoes all that is not committed.
     pub fn rollback(&mut self)
-        ensures undone { IsClean (S.Store.view self.new) → IsUndone (S.Store.view self.old) (S.Store.view self.new) }
+        ensures undone { IsClean (S.Store.view self.new)
+            → IsUndone (S.Store.view self.old) (S.Store.view self.new) }
         ensures blame { S.Store.blamed self.new ≡ S.Store.blamed self.old }
         ensures quiet { Quiet S.Store self.old self.new }
     {
@@ -194,7 +205,8 @@ impl<S: Store> BlockStore<S> {
     /// The digest of the name must be the SHA-256 of the block, of 32 bytes. If the codec is
     /// DAG-CBOR, the block must be valid, and read within 256 steps.
     pub fn add_block(&mut self, name: &Cid, block: &[u8]) -> Result<(), StoreRefusal>
-        ensures ok { OnOk result (IsSound (name.now, block.now) × (IsClean (S.Store.view self.new) → IsAdded (S.Store.view self.old) (S.Store.view self.new) name.now block.now)) }
+        ensures ok { OnOk result (IsSound (name.now, block.now) × (IsClean (S.Store.view self.new)
+            → IsAdded (S.Store.view self.old) (S.Store.view self.new) name.now block.now)) }
         ensures refused { IfErr result (PutRefused S.Store (name.now, block.now) self.old self.new) }
         ensures quiet { Quiet S.Store self.old self.new }
     {
@@ -212,9 +224,12 @@ impl<S: Store> BlockStore<S> {
     /// Stores the block under its name, and commits it, with all that waited for a commit. Once
     /// this returns `Ok` the block is stored, even after a power failure.
     pub fn put_block(&mut self, name: &Cid, block: &[u8]) -> Result<(), StoreRefusal>
-        ensures ok { OnOk result (IsSound (name.now, block.now) × (IsClean (S.Store.view self.new) → IsPut (S.Store.view self.old) (S.Store.view self.new) name.now block.now)) }
+        ensures ok { OnOk result (IsSound (name.now, block.now) × (IsClean (S.Store.view self.new)
+            → IsPut (S.Store.view self.old) (S.Store.view self.new) name.now block.now)) }
         ensures refused { IfErr result (PutRefused S.Store (name.now, block.now) self.old self.new) }
-        ensures crash { (db : _) → S.Store.recovers self.new db → S.Store.recovers self.old db ⊎ (IsClean (S.Store.view self.new) → IsAddedTo (S.Store.view self.old).trees db name.now block.now) }
+        ensures crash { (db : _) → S.Store.recovers self.new db → S.Store.recovers self.old db
+            ⊎ (IsClean (S.Store.view self.new)
+            → IsAddedTo (S.Store.view self.old).trees db name.now block.now) }
         ensures leaves { StillLeavesStore S.Store self.old self.new }
         ensures kept { IsKeptBy S.Store self.old self.new }
     {
@@ -225,7 +240,8 @@ impl<S: Store> BlockStore<S> {
     /// Removes the block under the name as of the next commit, and returns whether one was listed.
     /// A damaged block is removed too.
     pub fn remove(&mut self, name: &Cid) -> Result<bool, StoreRefusal>
-        ensures ok { IfOk result (λ taken. IsClean (S.Store.view self.new) → IsTaken (S.Store.view self.old) (S.Store.view self.new) name.now taken) }
+        ensures ok { IfOk result (λ taken. IsClean (S.Store.view self.new)
+            → IsTaken (S.Store.view self.old) (S.Store.view self.new) name.now taken) }
         ensures refused { IfErr result (FailsByStore S.Store ⊥ self.old self.new) }
         ensures quiet { Quiet S.Store self.old self.new }
     {

@@ -7,7 +7,8 @@ ghost use Rattle.sqlite_trees.specs.View.{IsClean};
 ghost use Rattle.store_rows.specs.Ends.{Quiet};
 ghost use Rattle.store_on_disk.specs.Stored.{StaysSame, IsAddedTo, IsKeptBy};
 ghost use Rattle.store_on_disk.specs.Leaving.{StillLeavesStore};
-ghost use Rattle.store_on_disk.specs.Values.{PutsValue, PutValueRefused, ShowsNamed, GetsValue, GetValueRefused};
+ghost use Rattle.store_on_disk.specs.Values.{PutsValue, PutValueRefused, ShowsNamed, GetsValue};
+ghost use Rattle.store_on_disk.specs.Values.{GetValueRefused};
 
 use crate::error::StoreRefusal;
 use crate::store::BlockStore;
@@ -51,7 +52,8 @@ impl<S: Store> BlockStore<S> {
         ensures ok { IfOk result (λ name. PutsValue S.Store (T.tree value.now) self.old name self.new) }
         ensures refused { IfErr result (λ e. PutValueRefused S.Store (T.tree value.now) self.old e self.new) }
         ensures crash { (db : _) → S.Store.recovers self.new db → S.Store.recovers self.old db
-            ⊎ IsSomeAnd (T.tree value.now) (λ t. IsClean (S.Store.view self.new) → IsAddedTo (S.Store.view self.old).trees db (block_name (spelling t)) (spelling t)) }
+            ⊎ IsSomeAnd (T.tree value.now) (λ t. IsClean (S.Store.view self.new)
+            → IsAddedTo (S.Store.view self.old).trees db (block_name (spelling t)) (spelling t)) }
         ensures leaves { StillLeavesStore S.Store self.old self.new }
         ensures kept { IsKeptBy S.Store self.old self.new }
     {
@@ -70,7 +72,8 @@ impl<S: Store> BlockStore<S> {
     /// under it. The block must be DAG-CBOR.
     pub fn get<'de, T: DeserializeOwned<'de>>(&mut self, name: &Cid) -> Result<Option<T>, GetError>
         ensures named { IfOk result (ShowsNamed T.meaning T.shape name.now) }
-        ensures gets { IfOk result (λ found. IsClean (S.Store.view self.new) → GetsValue T.meaning T.shape (S.Store.view self.old) name.now found) }
+        ensures gets { IfOk result (λ found. IsClean (S.Store.view self.new)
+            → GetsValue T.meaning T.shape (S.Store.view self.old) name.now found) }
         ensures same { OnOk result (StaysSame S.Store self.old self.new) }
         ensures refused { IfErr result (λ e. GetValueRefused S.Store T.shape name.now self.old e self.new) }
         ensures quiet { Quiet S.Store self.old self.new }

@@ -16,7 +16,8 @@ impl<S: Store> BlockStore<S> {
     /// `None`; `None` if no more follow. One block is in memory at a time.
     pub fn next_block(&mut self, last: Option<Cid>) -> Result<Option<(Cid, Vec<u8>)>, StoreRefusal>
         ensures verified { IfOk result IsNamedNext }
-        ensures next { IfOk result (λ next. IsClean (S.Store.view self.new) → NextBlock (S.Store.view self.old) last next) }
+        ensures next { IfOk result (λ next. IsClean (S.Store.view self.new)
+            → NextBlock (S.Store.view self.old) last next) }
         ensures same { OnOk result (StaysSame S.Store self.old self.new) }
         ensures refused { IfErr result (WalkRefused S.Store self.old self.new) }
         ensures of_next { IfErr result (IsOfNext S.Store last self.old self.new) }

@@ -3,7 +3,8 @@
 ghost use Rattle.std.specs.Prelude.{IfErr, OnOk};
 ghost use Rattle.dagcbor_items.specs.Walks.{forms};
 ghost use Rattle.store_rows.specs.Ends.{Quiet};
-ghost use Rattle.store_on_disk.specs.Walking.{AreBlocks, WritesFile, WriteRefused, BeginsFile, WritesNext, FileUnsent, FileWantsMemoryOnlyIf};
+ghost use Rattle.store_on_disk.specs.Walking.{AreBlocks, WritesFile, WriteRefused, BeginsFile};
+ghost use Rattle.store_on_disk.specs.Walking.{WritesNext, FileUnsent, FileWantsMemoryOnlyIf};
 
 use crate::car_error::WriteCarError;
 use crate::store::BlockStore;
@@ -37,8 +38,10 @@ impl<S: Store> BlockStore<S> {
         roots: &[Cid],
         writer: &mut W,
     ) -> Result<(), WriteCarError<W::Error>>
-        ensures ok { OnOk result (WritesFile S.Store (forms roots.now) AreBlocks self.old (W.written writer.old) (W.written writer.new) self.new) }
-        ensures refused { IfErr result (λ e. WriteRefused S.Store (forms roots.now) self.old (W.written writer.old) e (W.written writer.new) self.new) }
+        ensures ok { OnOk result (WritesFile S.Store (forms roots.now) AreBlocks self.old
+            (W.written writer.old) (W.written writer.new) self.new) }
+        ensures refused { IfErr result (λ e. WriteRefused S.Store (forms roots.now) self.old
+            (W.written writer.old) e (W.written writer.new) self.new) }
         ensures unsent { FileUnsent W.takes_memory (W.written writer.old) result (W.written writer.new) }
         ensures quiet { Quiet S.Store self.old self.new }
     {
@@ -59,7 +62,8 @@ impl<S: Store> BlockStore<S> {
         last: Option<Cid>,
         writer: &mut W,
     ) -> Result<Option<Cid>, WriteCarError<W::Error>>
-        ensures next { WritesNext S.Store last self.old (W.written writer.old) result (W.written writer.new) self.new }
+        ensures next { WritesNext S.Store last self.old (W.written writer.old) result
+            (W.written writer.new) self.new }
         ensures memory { FileWantsMemoryOnlyIf W.takes_memory result }
         ensures quiet { Quiet S.Store self.old self.new }
     {

@@ -3,7 +3,8 @@
 ghost use Rattle.std.specs.Prelude.{IfOk, IfErr, OnOk};
 ghost use Rattle.sqlite_trees.specs.View.{IsClean};
 ghost use Rattle.store_rows.specs.Ends.{Quiet};
-ghost use Rattle.store_on_disk.specs.Trees.{WritesTree, TreeRefused, TreeUnsent, WritesNames, NamesUnwritten, WritesNamed};
+ghost use Rattle.store_on_disk.specs.Trees.{WritesTree, TreeRefused, TreeUnsent, WritesNames};
+ghost use Rattle.store_on_disk.specs.Trees.{NamesUnwritten, WritesNamed};
 ghost use Rattle.store_on_disk.specs.Walking.{FileUnsent, FileWantsMemoryOnlyIf};
 
 use crate::car_error::{WriteCarError, WriteTreeError};
@@ -25,8 +26,10 @@ impl<S: Store> BlockStore<S> {
         root: &Cid,
         writer: &mut W,
     ) -> Result<Vec<Cid>, WriteTreeError<W::Error>>
-        ensures ok { IfOk result (λ lost. WritesTree S.Store root.now self.old (W.written writer.old) lost.items (W.written writer.new) self.new) }
-        ensures refused { IfErr result (λ e. TreeRefused S.Store root.now self.old (W.written writer.old) e (W.written writer.new) self.new) }
+        ensures ok { IfOk result (λ lost. WritesTree S.Store root.now self.old
+            (W.written writer.old) lost.items (W.written writer.new) self.new) }
+        ensures refused { IfErr result (λ e. TreeRefused S.Store root.now self.old
+            (W.written writer.old) e (W.written writer.new) self.new) }
         ensures unsent { TreeUnsent W.takes_memory (W.written writer.old) result (W.written writer.new) }
         ensures quiet { Quiet S.Store self.old self.new }
     {
@@ -51,8 +54,10 @@ impl<S: Store> BlockStore<S> {
         names: &[Cid],
         writer: &mut W,
     ) -> Result<(), WriteCarError<W::Error>>
-        ensures ok { OnOk result (WritesNames S.Store root.now names.now self.old (W.written writer.old) (W.written writer.new) self.new) }
-        ensures refused { IfErr result (λ e. NamesUnwritten S.Store root.now names.now self.old (W.written writer.old) e (W.written writer.new) self.new) }
+        ensures ok { OnOk result (WritesNames S.Store root.now names.now self.old
+            (W.written writer.old) (W.written writer.new) self.new) }
+        ensures refused { IfErr result (λ e. NamesUnwritten S.Store root.now names.now self.old
+            (W.written writer.old) e (W.written writer.new) self.new) }
         ensures unsent { FileUnsent W.takes_memory (W.written writer.old) result (W.written writer.new) }
         ensures quiet { Quiet S.Store self.old self.new }
     {
@@ -69,7 +74,8 @@ impl<S: Store> BlockStore<S> {
         name: &Cid,
         writer: &mut W,
     ) -> Result<(), WriteCarError<W::Error>>
-        ensures named { WritesNamed S.Store name.now self.old (W.written writer.old) result (W.written writer.new) self.new }
+        ensures named { WritesNamed S.Store name.now self.old (W.written writer.old) result
+            (W.written writer.new) self.new }
         ensures memory { FileWantsMemoryOnlyIf W.takes_memory result }
         ensures quiet { Quiet S.Store self.old self.new }
     {

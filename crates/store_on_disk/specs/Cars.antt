@@ -1,5 +1,6 @@
 -- What is read into a store from a CAR file.
-use Rattle.std.specs.Prelude.{◌≡◌, ◌≢◌, ◌↔◌, ◌⊎◌, ℕ, ◌-◌, ◌^◌, List, [], length, Option, None, Some, IsTrue, Result, Err, MatchResult, Vec}
+use Rattle.std.specs.Prelude.{◌≡◌, ◌≢◌, ◌↔◌, ◌⊎◌, ℕ, ◌-◌, ◌^◌, List, [], length, Option, None, Some}
+use Rattle.std.specs.Prelude.{IsTrue, Result, Err, MatchResult, Vec}
 use Rattle.std.specs.List.{AllByRecursion}
 use Rattle.std.specs.declared.alloc.Global.{Global}
 use Rattle.sqlite_trees.specs.Tree.{Trees}
@@ -11,7 +12,8 @@ use Rattle.dagcbor_items.specs.Walks.{forms}
 use Rattle.files_car.specs.Car.{Section}
 use Rattle.files_car.specs.Versions.{IsFile}
 use Rattle.files_car.specs.Extents.{bytes_within, wanting, of_file, EndsThere}
-use Rattle.files_car.specs.Sources.{CarRefuses, RefusesStart, RefusesNext, TakesSectionBytes, LacksMemoryIf, FileLacks, SectionLacks}
+use Rattle.files_car.specs.Sources.{CarRefuses, RefusesStart, RefusesNext, TakesSectionBytes}
+use Rattle.files_car.specs.Sources.{LacksMemoryIf, FileLacks, SectionLacks}
 use Rattle.files_car.specs.Checks.{IsFileFront, StandAfter}
 use Rattle.ipld_links.specs.Sets.{Among}
 use Rattle.ipld_links.specs.Sound.{IsSound, IsUnsound}
@@ -22,7 +24,8 @@ use Rattle.files_car.specs.declared.each.ReadCarError.TheVariants as stop
 use Rattle.store_rows.specs.Rows.{block_tree, name_tree, IsStored, IsListed, FreesId}
 use Rattle.store_rows.specs.Ends.{Quiet, KeepsOthers, IsOfBlocks, IsOfRoots}
 use Rattle.store_on_disk.specs.Stored.{IsAdded, IsTooLongFor, FailsByStore, PutRefused}
-use Rattle.store_on_disk.specs.Roots.{IsEarlier, GainsRoots, MayKeepRoots, ComesNext, LacksNumber, IsAnyTooLong, RootsRefused}
+use Rattle.store_on_disk.specs.Roots.{IsEarlier, GainsRoots, MayKeepRoots, ComesNext, LacksNumber}
+use Rattle.store_on_disk.specs.Roots.{IsAnyTooLong, RootsRefused}
 use Rattle.store_on_disk.specs.declared.error.StoreRefusal.{StoreRefusal}
 use Rattle.store_on_disk.specs.declared.error.StoreRefusal.TheVariants as refusal
 use Rattle.store_on_disk.specs.declared.car_error.ReadCarError.{ReadCarError}

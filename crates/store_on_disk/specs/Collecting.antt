@@ -1,5 +1,6 @@
 -- What is kept of a store if all is removed but the blocks that links lead to from roots.
-use Rattle.std.specs.Prelude.{◌≡◌, ◌↔◌, ◌⊎◌, ℕ, ℤ, List, [], ◌∷◌, ◌++◌, length, Option, None, Some, Bool, IsTrue, MatchBool, true}
+use Rattle.std.specs.Prelude.{◌≡◌, ◌↔◌, ◌⊎◌, ℕ, ℤ, List, [], ◌∷◌, ◌++◌, length, Option, None, Some}
+use Rattle.std.specs.Prelude.{Bool, IsTrue, MatchBool, true}
 use Rattle.std.specs.BTreeSet.{BTreeSet}
 use Rattle.sqlite_trees.specs.Tree.{Trees}
 use Rattle.sqlite_trees.specs.View.{View}
@@ -10,7 +11,8 @@ use Rattle.ipld_links.specs.Names.{IsInline}
 use Rattle.ipld_links.specs.Reaching.{Stored, IsThere, LeadsFar, NoneTwice}
 use Rattle.store_rows.specs.Rows.{block_tree, name_tree, block_row, name_entry, IsStored, IsListed}
 use Rattle.store_rows.specs.Ends.{KeepsOthers, IsOfBlocks}
-use Rattle.store_on_disk.specs.Stored.{IsNext, GivesNextName, ListsName, IsSame, IsTaken, FindsSo, FailsByStore}
+use Rattle.store_on_disk.specs.Stored.{IsNext, GivesNextName, ListsName, IsSame, IsTaken, FindsSo}
+use Rattle.store_on_disk.specs.Stored.{FailsByStore}
 use Rattle.store_on_disk.specs.Trees.{OfStored, IsKnown, Place, StopsAt}
 use Rattle.store_on_disk.specs.declared.error.StoreRefusal.{StoreRefusal}
 use Rattle.store_on_disk.specs.declared.error.StoreRefusal.TheVariants as refusal

@@ -30,10 +30,19 @@ abbrev pub root_text : List ℕ
 root_text = codes "CREATE TABLE root (cid BLOB NOT NULL) STRICT"
 
 abbrev pub table_of : List ℕ → List ℕ → Wanted
-table_of name text = record { shape = Table; reals = 0; row = Text (codes "table") ∷ Text name ∷ Text name ∷ Text text ∷ [] }
+table_of name text = record {
+  shape = Table;
+  reals = 0;
+  row = Text (codes "table") ∷ Text name ∷ Text name ∷ Text text ∷ [];
+}
 
 abbrev pub index_of_names : Wanted
-index_of_names = record { shape = Index plain; reals = 0; row = Text (codes "index") ∷ Text (codes "sqlite_autoindex_block_1") ∷ Text (codes "block") ∷ Null ∷ [] }
+index_of_names = record {
+  shape = Index plain;
+  reals = 0;
+  row = Text (codes "index") ∷ Text (codes "sqlite_autoindex_block_1") ∷ Text (codes "block")
+      ∷ Null ∷ [];
+}
 
 -- the table of blocks, the index of their names, and the table of roots
 abbrev pub store_objects : List Wanted
@@ -61,7 +70,8 @@ ListsObjects (w ∷ wanted) (r ∷ rows) = IsRowOfObject w r × ListsObjects wan
 
 -- the page size that the log names or, with no log to replay, the file
 abbrev pub NamesSize : Image → ℕ → Type 0
-NamesSize image size = (¬ IsIgnored image.log → size ≡ be32 image.log 8) × (IsIgnored image.log → size ≡ size_in_file image.db)
+NamesSize image size = (¬ IsIgnored image.log → size ≡ be32 image.log 8)
+    × (IsIgnored image.log → size ≡ size_in_file image.db)
 
 -- the pages are a sound database of the schema; each name in its index is a CID, listed once; and
 -- each row of the roots is a root's

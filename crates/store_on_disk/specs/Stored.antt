@@ -1,5 +1,6 @@
 -- What a store holds, and what its calls answer.
-use Rattle.std.specs.Prelude.{◌≡◌, ◌≢◌, ◌↔◌, ◌⊎◌, ℕ, ◌≤◌, Vec, false, ℤ, pos, List, [], ◌∷◌, ◌++◌, ⊤, Option, None, Some, Bool, IsTrue, Result, Ok, Err}
+use Rattle.std.specs.Prelude.{◌≡◌, ◌≢◌, ◌↔◌, ◌⊎◌, ℕ, ◌≤◌, Vec, false, ℤ, pos, List, [], ◌∷◌, ◌++◌}
+use Rattle.std.specs.Prelude.{⊤, Option, None, Some, Bool, IsTrue, Result, Ok, Err}
 use Rattle.std.specs.declared.cmp.Ordering.TheVariants.{Less}
 use Rattle.sha2.specs.Sha256.{sha256}
 use Rattle.sqlite_disk.specs.Disk.{MoreFaults}
@@ -19,7 +20,8 @@ use Rattle.ipld_links.specs.Names.{IsBySha256}
 use Rattle.ipld_links.specs.Sound.{IsUnsound}
 use Rattle.files_car.specs.Car.{Section}
 use Rattle.ipld_links.specs.Sets.{Among}
-use Rattle.store_rows.specs.Rows.{block_tree, name_tree, block_row, name_entry, name_cmp, IsStored, IsListed, IsKeyed, FreesId, IsTooLong}
+use Rattle.store_rows.specs.Rows.{block_tree, name_tree, block_row, name_entry, name_cmp, IsStored}
+use Rattle.store_rows.specs.Rows.{IsListed, IsKeyed, FreesId, IsTooLong}
 use Rattle.store_rows.specs.RootRows.{root_tree, IsRootShape, AreRoots}
 use Rattle.store_rows.specs.Ends.{KeepsOthers, IsOfBlocks}
 use Rattle.std.specs.declared.alloc.Global.{Global}

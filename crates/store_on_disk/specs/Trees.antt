@@ -1,5 +1,6 @@
 -- The blocks of a store that links lead to from a root, and the CAR file of them.
-use Rattle.std.specs.Prelude.{◌≡◌, ◌↔◌, ◌⊎◌, ℕ, List, [], ◌∷◌, ◌++◌, Option, None, Some, Result, Err, MatchResult, Bool, ⊤}
+use Rattle.std.specs.Prelude.{◌≡◌, ◌↔◌, ◌⊎◌, ℕ, List, [], ◌∷◌, ◌++◌, Option, None, Some, Result}
+use Rattle.std.specs.Prelude.{Err, MatchResult, Bool, ⊤}
 use Rattle.std.specs.BTreeSet.{BTreeSet}
 use Rattle.sqlite_trees.specs.View.{View}
 use Rattle.sqlite_trees.specs.declared.store.Store.{Ghosts}
@@ -11,13 +12,15 @@ use Rattle.ipld_links.specs.Names.{IsInline}
 use Rattle.ipld_links.specs.Blocks.{HasKnownLinks}
 use Rattle.ipld_links.specs.Verdicts.{HidesLinks}
 use Rattle.ipld_links.specs.declared.verdict.Verdict.{Verdict}
-use Rattle.ipld_links.specs.Reaching.{Stored, LeadsFar, IsLost, ListsReachable, ListsLost, Walks, WalksAt, SeesAlso}
+use Rattle.ipld_links.specs.Reaching.{Stored, LeadsFar, IsLost, ListsReachable, ListsLost, Walks}
+use Rattle.ipld_links.specs.Reaching.{WalksAt, SeesAlso}
 use Rattle.files_car.specs.Reached.{sections_at}
 use Rattle.ipld_links.specs.declared.reach.Reached.{Reached}
 use Rattle.ipld_links.specs.declared.reach.Walk.{Walk}
 use Rattle.store_rows.specs.Rows.{IsStored}
 use Rattle.store_on_disk.specs.Stored.{HoldsOnly, IsNamedBy, ListsName, IsDamaged, FindsSo, FailsByStore}
-use Rattle.store_on_disk.specs.Walking.{WritesFile, WritesFirst, WriterStops, AppendsSection, SectionStops, FileUnsent}
+use Rattle.store_on_disk.specs.Walking.{WritesFile, WritesFirst, WriterStops, AppendsSection}
+use Rattle.store_on_disk.specs.Walking.{SectionStops, FileUnsent}
 use Rattle.store_on_disk.specs.declared.error.StoreRefusal.{StoreRefusal}
 use Rattle.store_on_disk.specs.declared.error.StoreRefusal.TheVariants as refusal
 use Rattle.store_on_disk.specs.declared.car_error.WriteCarError.{WriteCarError}

@@ -16,7 +16,8 @@ use Rattle.dagcbor_write.specs.Answers.{HasNoSpelling}
 use Rattle.dagcbor_read.specs.Whole.{IsWhole, HoldsNoValue, OfWhole, LacksMemoryIf}
 use Rattle.ipld_links.specs.Names.{block_name}
 use Rattle.ipld_links.specs.Verdicts.{IsDagCbor}
-use Rattle.store_on_disk.specs.Stored.{ListsName, HoldsOnly, IsNamedBy, FindsSo, IsPut, GetRefused, PutRefused}
+use Rattle.store_on_disk.specs.Stored.{ListsName, HoldsOnly, IsNamedBy, FindsSo, IsPut, GetRefused}
+use Rattle.store_on_disk.specs.Stored.{PutRefused}
 use Rattle.store_on_disk.specs.declared.value.PutError.{PutError}
 use Rattle.store_on_disk.specs.declared.value.PutError.TheVariants as put
 use Rattle.store_on_disk.specs.declared.value.GetError.{GetError}

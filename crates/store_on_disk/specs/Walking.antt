@@ -1,5 +1,6 @@
 -- A walk over the blocks of a store, in the order of their names.
-use Rattle.std.specs.Prelude.{◌≡◌, ◌↔◌, ◌⊎◌, ℕ, List, ⊤, Option, None, Some, Vec, Result, Err, MatchResult, MatchOption, Bool, false, IsTrue}
+use Rattle.std.specs.Prelude.{◌≡◌, ◌↔◌, ◌⊎◌, ℕ, List, ⊤, Option, None, Some, Vec, Result, Err}
+use Rattle.std.specs.Prelude.{MatchResult, MatchOption, Bool, false, IsTrue}
 use Rattle.std.specs.List.{AllByRecursion}
 use Rattle.std.specs.declared.alloc.Global.{Global}
 use Rattle.std.specs.declared.cmp.Ordering.TheVariants.{Less}
@@ -13,7 +14,8 @@ use Rattle.ipld_tree.specs.Cid.{CidParts, cid_bytes}
 use Rattle.files_car.specs.Car.{Section, header_bytes, section_bytes, car_bytes, IsHeader, IsSection, IsCar}
 use Rattle.ipld_links.specs.Sets.{Among}
 use Rattle.store_rows.specs.Rows.{name_tree, name_cmp, IsStored, IsListed}
-use Rattle.store_on_disk.specs.Stored.{IsNamedBy, IsNext, GivesNextName, HoldsOnly, IsDamaged, FindsSo, FailsByStore}
+use Rattle.store_on_disk.specs.Stored.{IsNamedBy, IsNext, GivesNextName, HoldsOnly, IsDamaged}
+use Rattle.store_on_disk.specs.Stored.{FindsSo, FailsByStore}
 use Rattle.store_on_disk.specs.Cars.{IsNameIn, IsSectionIn}
 use Rattle.store_on_disk.specs.declared.error.StoreRefusal.{StoreRefusal}
 use Rattle.store_on_disk.specs.declared.error.StoreRefusal.TheVariants as refusal

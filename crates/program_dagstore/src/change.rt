@@ -7,7 +7,9 @@ ghost use Rattle.store_on_disk.specs.Ends.{Quiet};
 ghost use Rattle.store_on_disk.specs.Stored.{IsKeptBy, IsAddedTo, ListsName, FailsByStore};
 ghost use Rattle.ipld_links.specs.Reaching.{NoneTwice};
 ghost use Rattle.ipld_links.specs.Sound.{IsSound};
-ghost use Rattle.program_dagstore.specs.Changes.{IsUnfit, SaysText, name_as, cid_line, SaysPut, SaysCollected, ListsOthers, Changes, Splits, Removes, SaysRemoved};
+ghost use Rattle.program_dagstore.specs.Changes.{IsUnfit, SaysText, name_as, cid_line, SaysPut};
+ghost use Rattle.program_dagstore.specs.Changes.{SaysCollected, ListsOthers, Changes, Splits};
+ghost use Rattle.program_dagstore.specs.Changes.{Removes, SaysRemoved};
 ghost use Rattle.program_dagstore.specs.Roots.{CollectsMeant, KeepsMeant};
 
 use crate::export::tell_wrong;
@@ -62,7 +64,8 @@ pub fn put_block<S: Store, W: Write>(
     ensures says { SaysPut S.Store (name_as codec block.now) block.now store.old (W.contents output.old)
         result store.new (W.contents output.new) }
     ensures crash { (db : _) → S.Store.recovers store.new db → S.Store.recovers store.old db
-        ⊎ (IsClean (S.Store.view store.new) → IsAddedTo (S.Store.view store.old).trees db (name_as codec block.now) block.now) }
+        ⊎ (IsClean (S.Store.view store.new)
+        → IsAddedTo (S.Store.view store.old).trees db (name_as codec block.now) block.now) }
     ensures kept { IsKeptBy S.Store store.old store.new }
 {
     let name = name_as(codec, block);

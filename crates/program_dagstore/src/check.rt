@@ -6,7 +6,8 @@ ghost use Rattle.store_on_disk.specs.Ends.{Quiet};
 ghost use Rattle.store_on_disk.specs.Stored.{StaysSame, ListsName, HoldsOnly, IsNamedBy};
 ghost use Rattle.program_dagstore.specs.Said.{StoreFails};
 ghost use Rattle.program_dagstore.specs.Names.{SaysNames, SaysNext};
-ghost use Rattle.program_dagstore.specs.Checks.{is_linked, IsCheckedLine, SaysCheck, AddsUnlistedLinks, AddsOfNext, IsMissing, SaysKeys};
+ghost use Rattle.program_dagstore.specs.Checks.{is_linked, IsCheckedLine, SaysCheck};
+ghost use Rattle.program_dagstore.specs.Checks.{AddsUnlistedLinks, AddsOfNext, IsMissing, SaysKeys};
 
 use crate::fault::Fault;
 use crate::line::damaged_said;
@@ -70,9 +71,11 @@ fn checked_said<S: Store>(
     name: &Cid,
     missing: &mut BTreeSet<Cid>,
 ) -> Result<Said, Fault>
-    ensures said { IfOk result (λ p. (IsClean (S.Store.view store.new) → ListsName (S.Store.view store.old) name.now)
+    ensures said { IfOk result
+        (λ p. (IsClean (S.Store.view store.new) → ListsName (S.Store.view store.old) name.now)
         → IsCheckedLine (S.Store.view store.old) (S.Store.view store.new) name.now p.1 p.0.items) }
-    ensures missing { OnOk result (IsClean (S.Store.view store.new) → ListsName (S.Store.view store.old) name.now
+    ensures missing { OnOk result (IsClean (S.Store.view store.new)
+        → ListsName (S.Store.view store.old) name.now
         → AddsUnlistedLinks (S.Store.view store.old) name.now missing.old missing.new) }
     ensures same { OnOk result (StaysSame S.Store store.old store.new) }
     ensures fault { IfErr result (StoreFails S.Store store.old store.new) }
@@ -123,7 +126,8 @@ fn check_names<S: Store, W: Write, E: Write>(
     requires { missing.old.keys ≡ [] }
     ensures says { SaysNames IsCheckedLine (S.Store.view store.old) (W.contents output.old) result
         (S.Store.view store.new) (W.contents output.new) }
-    ensures missing { OnOk result (IsClean (S.Store.view store.new) → IsMissing (S.Store.view store.old) missing.new) }
+    ensures missing { OnOk result (IsClean (S.Store.view store.new)
+        → IsMissing (S.Store.view store.old) missing.new) }
     ensures same { OnOk result (StaysSame S.Store store.old store.new) }
     ensures fault { IfErr result (StoreFails S.Store store.old store.new) }
     ensures quiet { Quiet S.Store store.old store.new }

@@ -1,11 +1,13 @@
 //! The program's arguments.
 
-ghost use Rattle.std.specs.Prelude.{◌≡◌, ◌≢◌, ◌<◌, ◌≤◌, [], ◌∷◌, codes, length, map, string_bytes, IfOk, IfErr, MatchBool, MatchOption, MatchResult, List, ℕ};
+ghost use Rattle.std.specs.Prelude.{◌≡◌, ◌≢◌, ◌<◌, ◌≤◌, [], ◌∷◌, codes, length, map, string_bytes};
+ghost use Rattle.std.specs.Prelude.{IfOk, IfErr, MatchBool, MatchOption, MatchResult, List, ℕ};
 ghost use Rattle.std.specs.Str.Parse.{IsNumeral, digits_value};
 ghost use Rattle.ipld_tree.specs.Cid.{CidParts};
 ghost use Rattle.text_cid.specs.Texts.{IsTextOf, IsTextFault};
 ghost use Rattle.program_dagcar.specs.Commands.{name_part, path_part};
-ghost use Rattle.program_dagstore.specs.Commands.{NamesCodec, AreTextsOf, IsFirstFault, WantsNames, NamesCommand, AreWordsOf, IsAskedBy, AreWords};
+ghost use Rattle.program_dagstore.specs.Commands.{NamesCodec, AreTextsOf, IsFirstFault, WantsNames};
+ghost use Rattle.program_dagstore.specs.Commands.{NamesCommand, AreWordsOf, IsAskedBy, AreWords};
 ghost use Rattle.program_dagstore.specs.declared.command.Command.{Command};
 
 use ipld_links::DAG_CBOR;
@@ -350,7 +352,8 @@ fn one_of(names: &[Cid]) -> Option<Cid>
 
 /// Returns the names, if there are any.
 fn some_of(names: Vec<Cid>) -> Option<Vec<Cid>>
-    ensures { MatchOption result (names.items ≡ []) (λ some. (some.items ≡ names.items) × (names.items ≢ [])) }
+    ensures { MatchOption result (names.items ≡ [])
+        (λ some. (some.items ≡ names.items) × (names.items ≢ [])) }
 {
     if names.is_empty() { None } else { Some(names) }
 }

@@ -133,7 +133,8 @@ fn listing<S: Store>(
     ensures says { IfOk result (λ p. OfGot (S.Store.view store.old) (S.Store.view store.new)
         (λ stored. IsListing stored root.now (segments path.now) p.0.1 p.0.0.items p.1.items)) }
     ensures same { OnOk result (StaysSame S.Store store.old store.new) }
-    ensures fault { IfErr result (FailsAt S.Store (IsOfListing root.now (segments path.now)) store.old store.new) }
+    ensures fault { IfErr result
+        (FailsAt S.Store (IsOfListing root.now (segments path.now)) store.old store.new) }
     ensures quiet { Quiet S.Store store.old store.new }
 {
     match find_file(store, root, path) {
@@ -163,7 +164,8 @@ pub fn write_listing<S: Store, W: Write, V: Write>(
         (λ stored. SaysAll (IsListing stored root.now (segments path.now)) (W.contents output.old)
         (V.contents errors.old) result (W.contents output.new) (V.contents errors.new)) }
     ensures same { OnOk result (StaysSame S.Store store.old store.new) }
-    ensures fault { IfErr result (FailsAt S.Store (IsOfListing root.now (segments path.now)) store.old store.new) }
+    ensures fault { IfErr result
+        (FailsAt S.Store (IsOfListing root.now (segments path.now)) store.old store.new) }
     ensures quiet { Quiet S.Store store.old store.new }
 {
     match listing(alloc, store, root, path) {

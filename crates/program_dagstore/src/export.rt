@@ -109,7 +109,8 @@ fn tell_lost<V: Write>(alloc: Global, lost: &[Cid], errors: &mut V) -> Result<bo
 
 /// Reports the line of what is wrong, and returns false.
 pub fn tell_wrong<V: Write>(line: &[u8], errors: &mut V) -> Result<bool, Fault>
-    ensures { TellsText line.now (λ well. well ≡ false) (V.contents errors.old) result (V.contents errors.new) }
+    ensures { TellsText line.now (λ well. well ≡ false) (V.contents errors.old) result
+        (V.contents errors.new) }
 {
     write_all(errors, line)?;
     Ok(false)

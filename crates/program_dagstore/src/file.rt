@@ -5,11 +5,13 @@ ghost use Rattle.ipld_paths.specs.Paths.{segments};
 ghost use Rattle.files_unix_fs.specs.Reading.{Asked, asked};
 ghost use Rattle.program_parts.specs.Lines.{SaysBoth};
 ghost use Rattle.program_parts.specs.Content.{IsNextName, SaysContent, SaysNext};
-ghost use Rattle.program_parts.specs.FileNames.{HasEntry, NamesNothing, LeadsByNames, EndsByNames, names_line};
+ghost use Rattle.program_parts.specs.FileNames.{HasEntry, NamesNothing, LeadsByNames, EndsByNames};
+ghost use Rattle.program_parts.specs.FileNames.{names_line};
 ghost use Rattle.store_on_disk.specs.Ends.{Quiet};
 ghost use Rattle.store_on_disk.specs.Stored.{StaysSame};
 ghost use Rattle.program_dagstore.specs.Blocks.{GetFails};
-ghost use Rattle.program_dagstore.specs.Contents.{OfGot, SaysFile, IsOnTheWay, IsWantedIn, IsOfFile, FailsAt, FailsAtNext};
+ghost use Rattle.program_dagstore.specs.Contents.{OfGot, SaysFile, IsOnTheWay, IsWantedIn};
+ghost use Rattle.program_dagstore.specs.Contents.{IsOfFile, FailsAt, FailsAtNext};
 
 use crate::fault::Fault;
 use files_unix_fs::FileReader;
@@ -60,7 +62,8 @@ pub fn find_file<'p, S: Store>(
         (λ stored. MatchResult found (LeadsByNames stored root.now (segments path.now))
         (EndsByNames stored root.now (segments path.now)))) }
     ensures same { OnOk result (StaysSame S.Store store.old store.new) }
-    ensures fault { IfErr result (FailsAt S.Store (IsOnTheWay root.now (segments path.now)) store.old store.new) }
+    ensures fault { IfErr result
+        (FailsAt S.Store (IsOnTheWay root.now (segments path.now)) store.old store.new) }
     ensures quiet { Quiet S.Store store.old store.new }
 {
     let mut block = *root;
@@ -184,7 +187,8 @@ pub fn write_file<S: Store, W: Write, V: Write>(
         (λ stored. SaysFile stored root.now (segments path.now) (W.contents output.old)
         (V.contents errors.old) result (W.contents output.new) (V.contents errors.new)) }
     ensures same { OnOk result (StaysSame S.Store store.old store.new) }
-    ensures fault { IfErr result (FailsAt S.Store (IsOfFile root.now (segments path.now)) store.old store.new) }
+    ensures fault { IfErr result
+        (FailsAt S.Store (IsOfFile root.now (segments path.now)) store.old store.new) }
     ensures quiet { Quiet S.Store store.old store.new }
 {
     match find_file(store, root, path) {

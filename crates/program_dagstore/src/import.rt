@@ -9,7 +9,8 @@ ghost use Rattle.dagcbor_heads.specs.Reading.{fresh_reading};
 ghost use Rattle.dagcbor_core.specs.Appends.{AppendsFront};
 ghost use Rattle.dagcbor_items.specs.Walks.{forms};
 ghost use Rattle.store_on_disk.specs.Stored.{IsKeptBy};
-ghost use Rattle.program_dagstore.specs.Files.{file_text, file_status, after_line, unread_lines, unread_status, stored_lines, SaysStored, Imports};
+ghost use Rattle.program_dagstore.specs.Files.{file_text, file_status, after_line, unread_lines};
+ghost use Rattle.program_dagstore.specs.Files.{unread_status, stored_lines, SaysStored, Imports};
 ghost use Rattle.program_dagstore.specs.Refusals.{dagstore_line, refusal_text};
 ghost use Rattle.std.specs.declared.io.Error.{Error};
 
@@ -52,7 +53,8 @@ fn file_status<E>(error: &CarError<E>) -> u8
 /// Reports that the input is not a CAR file, or was not read, and returns the status.
 fn tell_file<E, V: Write>(error: &CarError<E>, errors: &mut V) -> u8
     ensures status { result ≡ file_status error.now }
-    ensures told { AppendsFront (V.contents errors.old) (V.contents errors.new) (dagstore_line (file_text error.now)) }
+    ensures told { AppendsFront (V.contents errors.old) (V.contents errors.new)
+        (dagstore_line (file_text error.now)) }
 {
     let (text, which) = file_words(error);
     let _ = write_told(errors, text, which);
@@ -112,7 +114,8 @@ fn write_unkept<V: Write>(
     refusal: &StoreRefusal,
 ) -> Result<(), ToolError>
     ensures { WritesFront (V.contents errors.old) (V.contents errors.new) result
-        (after_line count ++ (dagstore_line (codes "of " ++ cid_text name.now) ++ dagstore_line (refusal_text refusal.now))) }
+        (after_line count ++ (dagstore_line (codes "of " ++ cid_text name.now)
+        ++ dagstore_line (refusal_text refusal.now))) }
 {
     write_place(alloc, errors, count)?;
     write_block(errors, name, refusal)

@@ -6,7 +6,8 @@ ghost use Rattle.store_on_disk.specs.Ends.{Quiet};
 ghost use Rattle.store_on_disk.specs.Stored.{StaysSame, FailsByStore};
 ghost use Rattle.store_on_disk.specs.Collecting.{HasBlockAt};
 ghost use Rattle.program_dagstore.specs.Said.{StoreFails};
-ghost use Rattle.program_dagstore.specs.Lacking.{AddsLacking, ListsLacking, LeavesStored, SaysLacking, SaysStoreChecked};
+ghost use Rattle.program_dagstore.specs.Lacking.{AddsLacking, ListsLacking, LeavesStored};
+ghost use Rattle.program_dagstore.specs.Lacking.{SaysLacking, SaysStoreChecked};
 
 use crate::check::check_blocks;
 use crate::fault::Fault;
@@ -21,7 +22,8 @@ use store_on_disk::{BlockStore, Store, StoreRefusal};
 /// Returns whether a block is listed under the name, or the name holds it inline.
 fn has_block_at<S: Store>(store: &mut BlockStore<S>, name: &Cid) -> Result<bool, StoreRefusal>
     ensures has { IfOk result (λ has. IsClean (S.Store.view store.new)
-        → MatchBool has (HasBlockAt (S.Store.view store.old) name.now) (¬ HasBlockAt (S.Store.view store.old) name.now)) }
+        → MatchBool has (HasBlockAt (S.Store.view store.old) name.now)
+        (¬ HasBlockAt (S.Store.view store.old) name.now)) }
     ensures same { OnOk result (StaysSame S.Store store.old store.new) }
     ensures refused { IfErr result (FailsByStore S.Store ⊥ store.old store.new) }
     ensures quiet { Quiet S.Store store.old store.new }

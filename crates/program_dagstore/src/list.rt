@@ -22,7 +22,8 @@ fn listed_said<S: Store>(
     store: &mut BlockStore<S>,
     name: &Cid,
 ) -> Result<Said, Fault>
-    ensures said { IfOk result (λ p. (IsClean (S.Store.view store.new) → ListsName (S.Store.view store.old) name.now)
+    ensures said { IfOk result
+        (λ p. (IsClean (S.Store.view store.new) → ListsName (S.Store.view store.old) name.now)
         → IsListedLine (S.Store.view store.old) (S.Store.view store.new) name.now p.1 p.0.items) }
     ensures same { OnOk result (StaysSame S.Store store.old store.new) }
     ensures fault { IfErr result (StoreFails S.Store store.old store.new) }

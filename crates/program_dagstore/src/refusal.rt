@@ -4,7 +4,10 @@ ghost use Rattle.std.specs.Prelude.{◌≡◌, ◌++◌, codes, decimal, MatchOp
 ghost use Rattle.text_cid.specs.Texts.{cid_text};
 ghost use Rattle.program_shared.specs.Writing.{WritesFront};
 ghost use Rattle.dagcbor_core.specs.Appends.{AppendsFront};
-ghost use Rattle.program_dagstore.specs.Refusals.{disk_text, unsound_text, row_text, refusal_text, refusal_status, state_lines, refusal_lines, tool_text, dagstore_line, status_of, TellsRunFault};
+ghost use Rattle.program_dagstore.specs.Refusals.{disk_text, unsound_text, row_text, refusal_text};
+ghost use Rattle.program_dagstore.specs.Refusals.{refusal_status, state_lines, refusal_lines};
+ghost use Rattle.program_dagstore.specs.Refusals.{tool_text, dagstore_line, status_of};
+ghost use Rattle.program_dagstore.specs.Refusals.{TellsRunFault};
 
 use crate::fault::Fault;
 use dagcbor_decode::variant_name;
@@ -40,7 +43,8 @@ type Told = (&'static str, &'static str, Option<(&'static str, u64)>);
 /// Returns the message for a block that does not belong under its name.
 fn unsound_words(cause: &Unsound) -> Told
     ensures { MatchOption result.2 (result.0.now ++ result.1.now ≡ unsound_text cause.now)
-        (λ place. result.0.now ++ (result.1.now ++ (place.0.now ++ decimal place.1)) ≡ unsound_text cause.now) }
+        (λ place. result.0.now ++ (result.1.now ++ (place.0.now ++ decimal place.1))
+        ≡ unsound_text cause.now) }
 {
     match cause {
         Unsound::OtherHash => (
@@ -69,7 +73,8 @@ fn unsound_words(cause: &Unsound) -> Told
 /// Returns the message for a row of the database that no store writes.
 fn at_row(text: &'static str, row: &Option<u64>) -> Told
     ensures { MatchOption result.2 (result.0.now ++ result.1.now ≡ text.now ++ row_text row.now)
-        (λ place. result.0.now ++ (result.1.now ++ (place.0.now ++ decimal place.1)) ≡ text.now ++ row_text row.now) }
+        (λ place. result.0.now ++ (result.1.now ++ (place.0.now ++ decimal place.1))
+        ≡ text.now ++ row_text row.now) }
 {
     match row {
         Some(number) => (text, "", Some((" at row ", *number))),
@@ -80,7 +85,8 @@ fn at_row(text: &'static str, row: &Option<u64>) -> Told
 /// Returns the message for a refusal of the store.
 fn refusal_words(refusal: &StoreRefusal) -> Told
     ensures { MatchOption result.2 (result.0.now ++ result.1.now ≡ refusal_text refusal.now)
-        (λ place. result.0.now ++ (result.1.now ++ (place.0.now ++ decimal place.1)) ≡ refusal_text refusal.now) }
+        (λ place. result.0.now ++ (result.1.now ++ (place.0.now ++ decimal place.1))
+        ≡ refusal_text refusal.now) }
 {
     match refusal {
         StoreRefusal::Unsound(cause) => unsound_words(cause),

@@ -7,7 +7,9 @@ ghost use Rattle.store_on_disk.specs.Ends.{Quiet};
 ghost use Rattle.store_on_disk.specs.Stored.{IsKeptBy, StaysSame, FailsByStore};
 ghost use Rattle.ipld_links.specs.Reaching.{NoneTwice};
 ghost use Rattle.program_dagstore.specs.Changes.{Changes};
-ghost use Rattle.program_dagstore.specs.Roots.{SaysRoots, AreMeant, RootsUnread, HasAddedRoots, AddsToRoots, DropsRoots, SplitsRoots, Drops, SaysDropped};
+ghost use Rattle.program_dagstore.specs.Roots.{SaysRoots, AreMeant, RootsUnread, HasAddedRoots};
+ghost use Rattle.program_dagstore.specs.Roots.{AddsToRoots, DropsRoots, SplitsRoots, Drops};
+ghost use Rattle.program_dagstore.specs.Roots.{SaysDropped};
 ghost use Rattle.program_dagstore.specs.Said.{StoreFails};
 
 use crate::fault::Fault;

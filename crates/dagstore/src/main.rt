@@ -105,19 +105,9 @@ fn run_put<W: Write>(rt: &HostRuntime, path: &str, codec: u64, errors: &mut W) -
     }
 }
 
-/// Reports whether something is listed under the name, by the status alone.
-fn run_has<W: Write>(store: &mut Store, name: &Cid, errors: &mut W) -> u8 {
-    answer_has(store, name, errors)
-}
-
 /// Writes the roots, one a line.
 fn run_roots<W: Write>(rt: &HostRuntime, store: &mut Store, errors: &mut W) -> u8 {
     answer_roots(rt.alloc(), store, &mut rt.stdout().lock(), errors)
-}
-
-/// Makes the names roots.
-fn run_add_roots<W: Write>(store: &mut Store, names: &[Cid], errors: &mut W) -> u8 {
-    answer_add_roots(store, names, errors)
 }
 
 /// Removes the names from the roots, and writes how many. Status 1 if one is not a root.
@@ -374,10 +364,10 @@ fn run_over<W: Write>(rt: &HostRuntime, store: &mut Store, command: Command, err
     match command {
         Command::Export(roots) => run_export(rt, store, roots, errors),
         Command::Get(name) => run_get(rt, store, &name, errors),
-        Command::Has(name) => run_has(store, &name, errors),
+        Command::Has(name) => answer_has(store, &name, errors),
         Command::Remove(names) => run_remove(rt, store, &names, errors),
         Command::Collect(roots) => run_collect(rt, store, roots, errors),
-        Command::AddRoots(names) => run_add_roots(store, &names, errors),
+        Command::AddRoots(names) => answer_add_roots(store, &names, errors),
         Command::DropRoots(names) => run_drop_roots(rt, store, &names, errors),
         Command::Roots => run_roots(rt, store, errors),
         Command::Tree(root) => run_tree(rt, store, &root, errors),

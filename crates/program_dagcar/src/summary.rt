@@ -27,7 +27,7 @@ pub struct Counts {
 }
 
 /// Returns `count + 1`. The count never gets large enough to overflow.
-fn one_more(count: u64) -> Result<u64, AllocError>
+fn add_one(count: u64) -> Result<u64, AllocError>
     ensures { IfOk result (λ n. n ≡ count + 1) }
 {
     count.checked_add(1).ok_or(AllocError)
@@ -53,16 +53,16 @@ impl Counts {
     fn count(&mut self, verdict: &Verdict) -> Result<(), AllocError>
         ensures { OnOk result (CountsOne verdict.now self.old self.new) }
     {
-        self.sections = one_more(self.sections)?;
+        self.sections = add_one(self.sections)?;
         match verdict {
-            Verdict::Block(_) => self.ok = one_more(self.ok)?,
-            Verdict::Node => self.ok = one_more(self.ok)?,
-            Verdict::NoNode(_) => self.refused = one_more(self.refused)?,
-            Verdict::NotRead => self.not_read = one_more(self.not_read)?,
-            Verdict::LinksNotRead => self.links_not_read = one_more(self.links_not_read)?,
-            Verdict::Refused(_) => self.refused = one_more(self.refused)?,
-            Verdict::OtherBytes => self.other_bytes = one_more(self.other_bytes)?,
-            Verdict::Unverified => self.unverified = one_more(self.unverified)?,
+            Verdict::Block(_) => self.ok = add_one(self.ok)?,
+            Verdict::Node => self.ok = add_one(self.ok)?,
+            Verdict::NoNode(_) => self.refused = add_one(self.refused)?,
+            Verdict::NotRead => self.not_read = add_one(self.not_read)?,
+            Verdict::LinksNotRead => self.links_not_read = add_one(self.links_not_read)?,
+            Verdict::Refused(_) => self.refused = add_one(self.refused)?,
+            Verdict::OtherBytes => self.other_bytes = add_one(self.other_bytes)?,
+            Verdict::Unverified => self.unverified = add_one(self.unverified)?,
         }
         Ok(())
     }

@@ -151,13 +151,13 @@ fn check_names<S: Store, W: Write, E: Write>(
 fn missing_said(alloc: Global, missing: BTreeSet<Cid>) -> Result<Said, AllocError>
     ensures { SaysKeys missing.keys result }
 {
-    let none = missing.is_empty();
+    let none_missing = missing.is_empty();
     let mut lines = Vec::new(alloc);
     for name in missing {
         let line = missing_line(alloc, &name)?;
         lines.extend_from_slice(&line)?;
     }
-    Ok((lines, none))
+    Ok((lines, none_missing))
 }
 
 /// Writes a line for each listed name, and then one for each link that leads to no block. Returns
@@ -175,8 +175,8 @@ pub fn check_blocks<S: Store, W: Write, E: Write>(
     ensures quiet { Quiet S.Store store.old store.new }
 {
     let mut missing = BTreeSet::new(alloc);
-    let well = check_names(alloc, store, &mut missing, output, progress)?;
+    let all_sound = check_names(alloc, store, &mut missing, output, progress)?;
     let said = missing_said(alloc, missing)?;
-    let none = say(said, output)?;
-    Ok(well & none)
+    let none_missing = say(said, output)?;
+    Ok(all_sound & none_missing)
 }

@@ -251,6 +251,8 @@ def _read(file: Readable, most: int) -> bytes:
     while left and (piece := file.read(left)):
         pieces.append(piece)
         left -= len(piece)
+    if not pieces and piece is None:
+        raise BlockingIOError("read() has no bytes yet")
     return b"".join(pieces)
 
 

@@ -197,6 +197,21 @@ def test_import_and_export(store, path, tmp_path):
     assert len(store) == 3
 
 
+def test_a_source_that_has_no_bytes_yet(store):
+    """It is not at its end, so nothing of it is kept."""
+    class Waiting:
+        pieces = iter([car_of([b"a"], [b"a"]), None, car_of([b"b"])])
+
+        def read(self, most):
+            return next(self.pieces, b"")
+
+    with pytest.raises(BlockingIOError):
+        store.import_car(Waiting())
+    with pytest.raises(TypeError):
+        store.import_car(io.StringIO("text"))
+    assert len(store) == 0 and store.roots == []
+
+
 def test_another_has_it(store, path):
     store.put(b"a", "raw")
     with pytest.raises(StoreLocked, match="another process has the file open"):

@@ -14,6 +14,7 @@ import tempfile
 import threading
 from typing import IO, TYPE_CHECKING, NamedTuple, TypeVar, overload
 
+from ._files import pieces_of
 from ._native import CID, to_bytes
 
 if TYPE_CHECKING:
@@ -311,7 +312,7 @@ class Store:
                 return self._import(path_of(source))
         with tempfile.NamedTemporaryFile(suffix=".car") as copy:
             if hasattr(source, "read"):
-                shutil.copyfileobj(source, copy)
+                copy.writelines(pieces_of(source))
             else:
                 copy.write(to_bytes(source))
             copy.flush()

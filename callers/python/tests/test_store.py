@@ -5,10 +5,12 @@ import base64
 import hashlib
 import io
 import os
+import signal
 import sqlite3
 import subprocess
 import sys
 import threading
+import time
 
 import pytest
 from dagcbor import CID, DamagedBlock, InvalidBlock, InvalidCar, Store, StoreEnded, StoreError, StoreLocked, StoreUnreadable
@@ -305,6 +307,50 @@ def test_a_fork_is_refused(store):
         os._exit(1)
     assert os.waitpid(child, 0)[1] == 0
     assert len(store) == 1
+
+
+def test_a_fork_that_goes_on(path):
+    """It does not keep the program from its end."""
+    store = Store(path, PROGRAM)
+    store.put(b"a", "raw")
+    child = os.fork()
+    if not child:
+        time.sleep(60)
+        os._exit(0)
+    closing = threading.Thread(target=store.close)
+    closing.start()
+    closing.join(20)
+    is_closed = not closing.is_alive()
+    os.kill(child, signal.SIGKILL)
+    os.waitpid(child, 0)
+    closing.join()
+    assert is_closed
+
+
+def test_a_fork_while_another_thread_has_the_store(store):
+    begun, over = threading.Event(), threading.Event()
+
+    def work():
+        with store.batch():
+            begun.set()
+            over.wait()
+
+    thread = threading.Thread(target=work)
+    thread.start()
+    begun.wait()
+    child = os.fork()
+    if not child:
+        signal.alarm(20)
+        try:
+            len(store)
+        except StoreEnded:
+            os._exit(0)
+        finally:
+            os._exit(1)
+    over.set()
+    thread.join()
+    assert os.waitpid(child, 0)[1] == 0
+    assert len(store) == 0
 
 
 def test_where_the_program_is_found(path, monkeypatch, tmp_path):

@@ -12,6 +12,7 @@ import shutil
 import subprocess
 import tempfile
 import threading
+import weakref
 from typing import IO, TYPE_CHECKING, NamedTuple, TypeVar, overload
 
 from ._files import pieces_of
@@ -151,6 +152,7 @@ class Store:
         self._process = subprocess.Popen(
             words, stdin=pipe, stdout=pipe, stderr=pipe, process_group=0
         )
+        STORES.add(self)
         self._ask("rollback")
 
     # ---- one exchange
@@ -351,6 +353,22 @@ class Store:
     def __del__(self) -> None:
         with contextlib.suppress(Exception):
             self.close()
+
+
+STORES: weakref.WeakSet[Store] = weakref.WeakSet()
+
+
+def let_go() -> None:
+    """In a forked process, lets go of its parent's stores. Else their programs would not end before it,
+    and a lock would stay that of a thread which this process does not have."""
+    with open(os.devnull, "wb") as nothing:
+        for store in STORES:
+            store._lock = threading.RLock()
+            if store._process is not None and store._process.stdin is not None:
+                os.dup2(nothing.fileno(), store._process.stdin.fileno(), inheritable=False)
+
+
+os.register_at_fork(after_in_child=let_go)
 
 
 def text_of(cid: CID) -> str:

@@ -296,6 +296,34 @@ def test_threads(store):
     assert len(store) == 400 and len(store.roots) == 40
 
 
+def test_a_signal_handler_that_asks(store):
+    """Between a request and its answer it takes no answer, and puts nothing into a block."""
+    class Interrupted:
+        def __init__(self, file):
+            self.file = file
+
+        def write(self, piece):
+            self.file.write(piece)
+            signal.raise_signal(signal.SIGUSR1)
+
+        flush = property(lambda self: self.file.flush)
+
+    def ask(*_):
+        with pytest.raises(RuntimeError, match="already at work"):
+            store.get(a)
+        asked.append(a)
+
+    a, asked, process = store.put(b"a", "raw"), [], store._process
+    before, stdin = signal.signal(signal.SIGUSR1, ask), process.stdin
+    process.stdin = Interrupted(stdin)
+    try:
+        assert store.get(store.put(b"b" * 100, "raw")) == b"b" * 100
+    finally:
+        process.stdin = stdin
+        signal.signal(signal.SIGUSR1, before)
+    assert len(asked) == 4 and store.get(a) == b"a"
+
+
 def test_a_fork_is_refused(store):
     store.put(b"a", "raw")
     child = os.fork()

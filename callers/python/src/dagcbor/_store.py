@@ -143,7 +143,7 @@ class Store:
         self, path: str | os.PathLike[str], program: str | os.PathLike[str] | None = None
     ) -> None:
         self._lock = threading.RLock()
-        self._in_batch = False
+        self._in_batch = self._is_busy = False
         self._failed: StoreError | None = None
         self._pid = os.getpid()
         self._process: subprocess.Popen[bytes] | None = None
@@ -174,7 +174,10 @@ class Store:
             raise StoreEnded("the store is closed")
         if os.getpid() != self._pid:
             raise StoreEnded("the store was opened by another process than this one")
+        if self._is_busy:  # what asks is a signal handler, or a finalizer, of the thread that has the lock
+            raise RuntimeError("the store is already at work")
         assert process.stdin and process.stdout
+        self._is_busy = True
         try:
             process.stdin.write(request)
             process.stdin.write(block)
@@ -190,6 +193,8 @@ class Store:
             # It is not known what was answered, so nothing more is asked.
             self._ended(process)
             raise
+        finally:
+            self._is_busy = False
         return word, body
 
     def _ask(self, request: str, block: bytes = b"") -> bytes | None:

@@ -86,6 +86,12 @@ def test_refused(store, block, codec):
     assert len(store) == 0
 
 
+def test_bytes_that_lie_about_their_length(store):
+    short = type("Short", (bytes,), {"__len__": lambda self: 1})
+    cid = store.put(short(b"ab"), "raw")
+    assert cid == name_of(b"ab", 0x55) and store.get(cid) == b"ab"
+
+
 def test_names_in_the_order_of_bytes(store):
     blocks = [b"%d" % n for n in range(300)]
     with store.batch():

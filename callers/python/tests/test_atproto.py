@@ -40,6 +40,14 @@ def test_what_is_none(text):
         atproto.from_json(text)
 
 
+@pytest.mark.parametrize("front, end", [("[", "]"), ('{"a":', "}")])
+def test_what_is_nested_too_deep(front, end):
+    assert loads(atproto.from_json(front * 127 + "1" + end * 127))
+    for levels in (128, 500, 100_000):
+        with pytest.raises(ValueError):
+            atproto.from_json(front * levels + "1" + end * levels)
+
+
 def test_refusals_of_the_library():
     for text in ("1.5", '{"a":[1.0]}', '{"$link":"zz"}', "NaN", "18446744073709551616"):
         with pytest.raises(DagCborError):

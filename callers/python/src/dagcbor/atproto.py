@@ -85,7 +85,11 @@ def from_json(text: str | Buffer, /) -> bytes:
     fraction are refused as `dumps` refuses a float.
     """
     given = text if isinstance(text, str) else to_bytes(text).decode()
-    return dumps(json.loads(given, object_pairs_hook=_heard))
+    try:
+        value = json.loads(given, object_pairs_hook=_heard)
+    except RecursionError:
+        raise ValueError("lists and maps are nested too deep") from None
+    return dumps(value)
 
 
 def _told(value: Any) -> Any:

@@ -34,6 +34,7 @@ def test_padding_may_be_there():
 @pytest.mark.parametrize("text", [
     '{"a":1,"a":2}', '{"$link":"%s","a":1}' % LINK, '{"$bytes":"AA","$link":"%s"}' % LINK, '{"$link":1}',
     '{"$bytes":null}', '{"$bytes":"A"}', '{"$bytes":"AB"}', '{"$bytes":"A-"}', '{"$bytes":"A A"}', "{", "",
+    '{"$bytes":"="}', '{"$bytes":"===="}', '{"$bytes":"AA="}', '{"$bytes":"AA==="}', '{"$bytes":"AAEC="}', '{"$bytes":"A==="}',
 ])
 def test_what_is_none(text):
     with pytest.raises(ValueError):

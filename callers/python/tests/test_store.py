@@ -412,6 +412,9 @@ def test_what_is_said():
         ("dagstore: out of memory\n", "StoreMemoryError"),
         ("dagstore: no number is left for a row\n", "StoreError"),
         (f"dagstore: after 2 sections\ndagstore: of {a}\ndagstore: the block has other bytes than its name says\n", "InvalidCar"),
+        ("dagstore: the input failed\n", "StoreError"),
+        ("dagstore: after 2 sections\ndagstore: the input failed\n", "StoreError"),
+        ("dagstore: after 2 sections\ndagstore: the input is not a CAR file: Truncated\n", "InvalidCar"),
         (f"dagstore: {a} other bytes\ndagstore: what is stored under the name has other bytes than it says\n", "DamagedBlock"),
     ):
         assert type(refusal_of(text)).__name__ == kind

@@ -103,7 +103,7 @@ def refusal_of(said: str) -> StoreError:
     if why.startswith("what is stored under the name"):
         name = lines[0].partition(" ")[0] if len(lines) > 1 else ""
         return DamagedBlock(text, CID(name) if name else None)
-    if any(it.startswith("after ") for it in lines[:-1]):
+    if why != "the input failed" and any(it.startswith("after ") for it in lines[:-1]):
         return InvalidCar(text)
     return next((kind(text) for start, kind in REFUSALS if re.match(start, why)), StoreError(text))
 

@@ -2,6 +2,7 @@
 The names that are expected are made here, by hashlib and base64 alone."""
 
 import base64
+import enum
 import hashlib
 import io
 import os
@@ -84,6 +85,11 @@ def test_refused(store, block, codec):
     with pytest.raises(InvalidBlock, match="the block is no DAG-"):
         store.put(block, codec)
     assert len(store) == 0
+
+
+def test_a_codec_of_a_subclass(store):
+    codec = enum.Enum("Codec", {"RAW": "raw"}, type=str).RAW
+    assert store.put(b"a", codec) == name_of(b"a", 0x55) and len(store) == 1
 
 
 def test_bytes_that_lie_about_their_length(store):

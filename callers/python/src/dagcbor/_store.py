@@ -387,7 +387,7 @@ def codec_of(codec: str | int) -> str:
     if isinstance(codec, str):
         if codec not in CODECS:
             raise ValueError("a codec is 'dag-cbor', 'raw' or a number")
-        return codec
+        return CODECS[CODECS.index(codec)]  # a subclass may be written in another way
     if not 0 <= codec < 2**64:
         raise ValueError("a codec has 64 bits")
     return f"0x{codec:x}"

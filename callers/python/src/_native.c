@@ -3,7 +3,7 @@
 
    A call reads a `bytes`, which nobody writes. Any other buffer, which other threads and programs
    may write meanwhile, or which is of a subclass, is copied into one first. The interpreter's lock
-   is let go while a big block is judged or hashed. */
+   is let go while `check` judges a big block, and while one is hashed. */
 #include "native.h"
 
 #include "car.h"

@@ -369,7 +369,7 @@ def let_go() -> None:
     with open(os.devnull, "wb") as nothing:
         for store in STORES:
             store._lock = threading.RLock()
-            if store._process is not None and store._process.stdin is not None:
+            if store._process is not None and store._process.stdin and not store._process.stdin.closed:
                 os.dup2(nothing.fileno(), store._process.stdin.fileno(), inheritable=False)
 
 

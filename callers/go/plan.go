@@ -359,9 +359,9 @@ func newField(it reflect.StructField, name, options string, index []int) field {
 	for _, option := range strings.Split(options, ",") {
 		switch option {
 		case "omitempty":
-			made.isLeft = isEmpty
+			made.leaveIf(isEmpty)
 		case "omitzero":
-			made.isLeft = zeroOf(it.Type)
+			made.leaveIf(zeroOf(it.Type))
 		case "string":
 			made.refusal = `has a field with the option "string", which is json's alone: ` + it.Name
 		case "keyasint", "toarray":
@@ -369,6 +369,12 @@ func newField(it reflect.StructField, name, options string, index []int) field {
 		}
 	}
 	return made
+}
+
+// Leaves the field out also if this is true of its value.
+func (field *field) leaveIf(is func(reflect.Value) bool) {
+	isLeft := field.isLeft
+	field.isLeft = func(value reflect.Value) bool { return isLeft != nil && isLeft(value) || is(value) }
 }
 
 // As in json; and also a CID that names nothing.

@@ -389,10 +389,13 @@ func TestOmitZero(t *testing.T) {
 		E, F zeroer  `dagcbor:",omitzero"`
 		G    *level  `dagcbor:",omitzero"`
 		H    []level `dagcbor:",omitzero"`
+		// One of the two is enough.
+		I []level   `dagcbor:",omitempty,omitzero"`
+		J time.Time `dagcbor:",omitzero,omitempty"`
 	}
 	var none *time.Time
 	var data any
-	block := mustMarshal(t, record{A: 0, B: -1, C: time.Time{}, D: none, E: none, F: level(0), H: []level{}})
+	block := mustMarshal(t, record{A: 0, B: -1, C: time.Time{}, D: none, E: none, F: level(0), H: []level{}, I: []level{}})
 	equal(t, Unmarshal(block, &data), nil)
 	equal(t, data, map[string]any{"A": int64(0), "C": "0001-01-01T00:00:00Z", "D": nil, "F": int64(0), "H": []any{}})
 	equal(t, mustMarshal(t, record{B: -1, A: -1, F: level(-1), G: new(level)}), mustMarshal(t, map[string]any{"G": 0}))

@@ -112,6 +112,7 @@ over('what is no argument', async ({ store }) => {
     () => store.put(new Uint8Array(new SharedArrayBuffer(1)), 'raw'), () => store.exportCar('a\nb'),
     () => store.importCar(''), () => Store.open(5), () => Store.open('a\ud800'), () => store.commit([{}]),
     () => store.commit({ put: text('a') }), () => all(store.putMany([{ block: text('a') }])),
+    () => store.commit([{ put: text('a'), codec: 'raw', addRoot: cid }]), () => store.commit([{ addRoot: cid, dropRoot: cid }]),
   ];
   for (const it of calls) await assert.rejects(async () => it(), TypeError);
   assert.strictEqual(await store.count(), 0);

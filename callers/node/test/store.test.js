@@ -335,6 +335,8 @@ test('what is said', () => {
     ['dagstore: the index of names has a wrong entry at row 7\n', 'StoreUnreadable'],
     ['dagstore: the table of roots has a wrong row at row 9\n', 'StoreUnreadable'],
     [`dagstore: after 2 sections\ndagstore: of ${a}\ndagstore: the block has other bytes than its name says\n`, 'InvalidCar'],
+    ['dagstore: after 2 sections\ndagstore: the input is not a CAR file: Truncated\n', 'InvalidCar'],
+    ['dagstore: after 2 sections\ndagstore: the input failed\n', 'StoreError'],
     [`dagstore: ${a} other bytes\ndagstore: what is stored under the name has other bytes than it says\n`, 'DamagedBlock'],
   ]) {
     const error = refusalOf(said);

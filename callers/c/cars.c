@@ -68,5 +68,6 @@ int main(int count, char **words) {
     else printf("%" PRId32 " at %" PRIu64 "\n", code, car.walk.place);
     car_free(&car);
     fclose(file);
+    if (ferror(stdout) || fflush(stdout) != 0) give_up("output failed");
     return code != DAGCBOR_CAR_END;
 }

@@ -4,7 +4,8 @@
      events FILE
 
    A line is a frame: `commit BYTES`, with the number of bytes of the answer; the number of another
-   kind; or the name of why the commit is not verified. The status is 0 if each frame is read. */
+   kind; or the name of why the commit is not verified. The status is 0 if each frame is read and its
+   line is written. */
 #include "asking.h"
 #include <stdio.h>
 
@@ -29,5 +30,5 @@ int main(int count, char **paths) {
         free(it.answer);
         at += end;
     }
-    return 0;
+    return ferror(stdout) || fflush(stdout) != 0 ? 2 : 0;
 }

@@ -5,7 +5,7 @@
      repo -c FILE..      for the commit alone
      repo -k KEY FILE..  for the file that proves which record the key has
 
-   The status is 0 if there is an answer for all. */
+   The status is 0 if there is an answer for all, and it is written. */
 #include "asking.h"
 #include <stdio.h>
 #include <string.h>
@@ -47,5 +47,5 @@ int main(int count, char **words) {
         free(file);
     }
     free(it.answer);
-    return status;
+    return ferror(stdout) || fflush(stdout) != 0 ? 2 : status;
 }

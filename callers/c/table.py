@@ -36,9 +36,13 @@ def main():
             kept.flush()
             words = [sys.argv[1], kept.name]
             ran = subprocess.run(words, stdout=subprocess.PIPE, text=True, check=False)
+            with open("/dev/full", "wb") as full:
+                lost = subprocess.run(words, stdout=full, stderr=subprocess.DEVNULL, check=False)
         wanted = list(lines_of(roots, sections, fault))
         if ran.stdout.splitlines() != wanted or ran.returncode != (fault != "-"):
             sys.exit(f"wrong: {file}\n{ran.stdout}")
+        if lost.returncode != 2:
+            sys.exit(f"the output is lost, and that is not told: {file}")
     print(f"{len(rows)} files")
 
 

@@ -164,7 +164,10 @@ func told(place C.uint64_t) int64 {
 }
 
 // CARWriter writes a CAR file (version 1), each block as it comes.
-type CARWriter struct{ writer io.Writer }
+type CARWriter struct {
+	writer io.Writer
+	err    error // of the writer, which comes again: a part of a section may be written
+}
 
 // NewCARWriter writes the header.
 func NewCARWriter(writer io.Writer, roots []CID) (*CARWriter, error) {
@@ -172,7 +175,7 @@ func NewCARWriter(writer io.Writer, roots []CID) (*CARWriter, error) {
 	if err != nil {
 		return nil, err
 	}
-	car := &CARWriter{writer}
+	car := &CARWriter{writer: writer}
 	return car, car.put(nil, header)
 }
 
@@ -189,9 +192,11 @@ func (car *CARWriter) Write(cid CID, block []byte) (Verdict, error) {
 // Writes both, with their length before them.
 func (car *CARWriter) put(name, block []byte) error {
 	front := binary.AppendUvarint(nil, uint64(len(name)+len(block)))
-	if _, err := car.writer.Write(append(front, name...)); err != nil {
-		return err
+	if car.err == nil {
+		_, car.err = car.writer.Write(append(front, name...))
 	}
-	_, err := car.writer.Write(block)
-	return err
+	if car.err == nil {
+		_, car.err = car.writer.Write(block)
+	}
+	return car.err
 }

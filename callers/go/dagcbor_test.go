@@ -480,6 +480,9 @@ func TestWriter(t *testing.T) {
 	writer.writer = failing{}
 	_, err = writer.Write(Name(nil), nil)
 	equal(t, err, iotest.ErrTimeout)
+	writer.writer = io.Discard
+	_, err = writer.Write(Name(nil), nil)
+	equal(t, err, iotest.ErrTimeout)
 	_, err = NewCARWriter(failing{}, nil)
 	equal(t, err, iotest.ErrTimeout)
 }

@@ -146,6 +146,9 @@ type Unmarshaler interface{ UnmarshalCBOR(item []byte) error }
 type streamMarshaler interface{ MarshalCBOR(io.Writer) error }
 type streamUnmarshaler interface{ UnmarshalCBOR(io.Reader) error }
 
+// A value that says itself if the option omitzero leaves it out.
+type zeroer interface{ IsZero() bool }
+
 // RawMessage is an item as it is spelled. It is written as it stands, or as null if it is nil.
 type RawMessage []byte
 
@@ -171,6 +174,7 @@ var (
 	ofStream   = typeOf[streamMarshaler]()
 	ofText     = typeOf[encoding.TextMarshaler]()
 	ofBinary   = typeOf[encoding.BinaryMarshaler]()
+	ofZeroer   = typeOf[zeroer]()
 	fromItem   = typeOf[Unmarshaler]()
 	fromStream = typeOf[streamUnmarshaler]()
 	fromText   = typeOf[encoding.TextUnmarshaler]()
@@ -355,9 +359,9 @@ func newField(it reflect.StructField, name, options string, index []int) field {
 	for _, option := range strings.Split(options, ",") {
 		switch option {
 		case "omitempty":
-			made.isLeft = isEmpty
+			made.leaveIf(isEmpty)
 		case "omitzero":
-			made.isLeft = isZero
+			made.leaveIf(zeroOf(it.Type))
 		case "string":
 			made.refusal = `has a field with the option "string", which is json's alone: ` + it.Name
 		case "keyasint", "toarray":
@@ -365,6 +369,12 @@ func newField(it reflect.StructField, name, options string, index []int) field {
 		}
 	}
 	return made
+}
+
+// Leaves the field out also if this is true of its value.
+func (field *field) leaveIf(is func(reflect.Value) bool) {
+	isLeft := field.isLeft
+	field.isLeft = func(value reflect.Value) bool { return isLeft != nil && isLeft(value) || is(value) }
 }
 
 // As in json; and also a CID that names nothing.
@@ -378,17 +388,23 @@ func isEmpty(value reflect.Value) bool {
 	return value.IsZero()
 }
 
-// By the value's method IsZero, if it has one.
-func isZero(value reflect.Value) bool {
-	if value.IsZero() || !value.CanInterface() {
-		return value.IsZero()
+// By the method IsZero of the type, if it has one, and by that alone, as in json. Nil pointers are zero.
+func zeroOf(of reflect.Type) func(reflect.Value) bool {
+	switch {
+	case reflect.PointerTo(of).Implements(ofZeroer):
+		return func(value reflect.Value) bool {
+			if !value.CanInterface() {
+				return value.IsZero()
+			}
+			return pointerTo(value).(zeroer).IsZero()
+		}
+	case of.Implements(ofZeroer): // a pointer, or an interface
+		return func(value reflect.Value) bool {
+			isNil := value.IsNil() || value.Elem().Kind() == reflect.Pointer && value.Elem().IsNil()
+			return isNil || value.CanInterface() && value.Interface().(zeroer).IsZero()
+		}
 	}
-	it := value.Interface()
-	if kind := value.Kind(); kind != reflect.Pointer && kind != reflect.Interface {
-		it = pointerTo(value)
-	}
-	zeroer, ok := it.(interface{ IsZero() bool })
-	return ok && zeroer.IsZero()
+	return reflect.Value.IsZero
 }
 
 // Of the value, or of a copy if it has no address.

@@ -376,6 +376,31 @@ func TestByMethods(t *testing.T) {
 	equal(t, []any{Unmarshal(mustMarshal(t, value), &same), same}, []any{nil, value})
 }
 
+// A level, where 0 is one, and -1 is none.
+type level int
+
+func (it level) IsZero() bool { return it == -1 }
+
+// By json's rules, which are those of Go 1.24.
+func TestOmitZero(t *testing.T) {
+	type record struct {
+		A, B level   `dagcbor:",omitzero"`
+		C, D any     `dagcbor:",omitzero"`
+		E, F zeroer  `dagcbor:",omitzero"`
+		G    *level  `dagcbor:",omitzero"`
+		H    []level `dagcbor:",omitzero"`
+		// One of the two is enough.
+		I []level   `dagcbor:",omitempty,omitzero"`
+		J time.Time `dagcbor:",omitzero,omitempty"`
+	}
+	var none *time.Time
+	var data any
+	block := mustMarshal(t, record{A: 0, B: -1, C: time.Time{}, D: none, E: none, F: level(0), H: []level{}, I: []level{}})
+	equal(t, Unmarshal(block, &data), nil)
+	equal(t, data, map[string]any{"A": int64(0), "C": "0001-01-01T00:00:00Z", "D": nil, "F": int64(0), "H": []any{}})
+	equal(t, mustMarshal(t, record{B: -1, A: -1, F: level(-1), G: new(level)}), mustMarshal(t, map[string]any{"G": 0}))
+}
+
 // An item by its methods, as for fxamacker/cbor, and as cbor-gen makes them.
 type spelled struct{ item string }
 

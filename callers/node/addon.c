@@ -195,7 +195,8 @@ static napi_value spell(napi_env env, napi_callback_info info) {
     if (napi_get_typedarray_info(env, given[3], NULL, &length, &into, NULL, NULL) != napi_ok)
         return number_of(env, it.used);
     TRY(napi_get_value_uint32(env, given[4], &from));
-    return spelt(env, &it, (uint8_t *)into + from, length - from < SHARED ? length - from : SHARED);
+    size_t left = from < length ? length - from : 0; /* a script may have detached the array */
+    return spelt(env, &it, (uint8_t *)into + from, left < SHARED ? left : SHARED);
 }
 
 /* The other calls */

@@ -34,8 +34,12 @@ const whole = (bytes) => {
 
 const PIECE = 1 << 18; // of bytes in memory
 
-const pieces = function* (bytes) {
-  for (let at = 0; at < bytes.length; at += PIECE) yield bytes.subarray(at, at + PIECE);
+// The length is that at the call: bytes that are taken away later are no end.
+const pieces = function* (bytes, { length } = bytes) {
+  for (let at = 0; at < length; at += PIECE) {
+    yield bytes.subarray(at, at + PIECE);
+    if (bytes.length !== length) throw new TypeError('the bytes were taken away while they were read');
+  }
 };
 
 // Gives the bytes of a source in pieces: from bytes themselves, or from what is iterated.

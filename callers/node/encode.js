@@ -50,7 +50,7 @@ class Tape {
 
   put(kind, low, high, place) {
     const { at } = this;
-    if (at === this.words.length) this.words = longer(this.words, 0);
+    if (at === this.words.length) this.words = longer(this.words, 2 * at); // or throws
     const { words } = this;
     words[at] = kind;
     words[at + 2] = low;

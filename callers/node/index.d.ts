@@ -196,7 +196,8 @@ export function decodeFirst<T = Data>(bytes: Uint8Array): [T, Uint8Array];
  * it is refused (`Unsupported`), for example the reactive Map of a framework.
  *
  * A block of up to 1,024 bytes may share its `buffer` with others, as a Buffer of Node does. If
- * that matters, as for `postMessage`, take its `slice()`.
+ * that matters, as for `postMessage`, take its `slice()`. A `ReadableStream` of bytes takes the
+ * `buffer`, and so the other blocks become empty.
  */
 export function encode(value: unknown): Uint8Array;
 

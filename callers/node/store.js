@@ -31,6 +31,10 @@ const codecOf = (codec) => {
 
 // The request for a change. A block is copied, because it is sent later.
 const requestOf = ({ put, cid, codec = cid ? wantedCid(cid).code : 'dag-cbor', ...named }) => {
+  const others = Object.keys(named).filter((it) => Object.hasOwn(WORDS, it));
+  if (others.length > (put === undefined ? 1 : 0)) {
+    throw new TypeError('a change is one of put, delete, addRoot and dropRoot');
+  }
   if (put !== undefined) {
     const block = whole(put).slice();
     return { line: `add ${codecOf(codec)} ${block.length}`, block, cid: cid && wantedCid(cid) };

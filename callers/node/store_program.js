@@ -33,7 +33,8 @@ const refusalOf = (said) => {
   const lines = said.trim().split('\n').map((it) => it.replace(/^dagstore: /, ''));
   const [first, why] = [lines[0], lines.at(-1)];
   const [, found = 'StoreError'] = REFUSALS.find(([start]) => start.test(why)) ?? [];
-  const error = new errors[first.startsWith('after ') ? 'InvalidCar' : found](lines.join(', '));
+  const isCar = first.startsWith('after ') && why !== 'the input failed';
+  const error = new errors[isCar ? 'InvalidCar' : found](lines.join(', '));
   if (found === 'DamagedBlock' && lines.length > 1) error.cid = new CID(first.split(' ')[0]);
   return error;
 };

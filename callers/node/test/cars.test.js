@@ -337,6 +337,32 @@ test('bytes that change meanwhile', async () => {
   assert.deepStrictEqual(found.verdicts, { 'refused TrailingData': 1 });
 });
 
+test('bytes that are taken away meanwhile', async () => {
+  const front = HEADER.length + 39; // and the head of the section
+  const first = Buffer.alloc((1 << 18) - front, 0xf6); // it ends where a piece does
+  const file = Buffer.concat([HEADER, section(first), section(Buffer.from(encode(1)))]);
+  assert.strictEqual(HEADER.length + section(first).length, 1 << 18);
+  const taking = [
+    (bytes) => structuredClone(bytes.buffer, { transfer: [bytes.buffer] }),
+    (bytes) => new ReadableStream({ type: 'bytes', start: (it) => it.enqueue(bytes) }),
+  ];
+  for (const take of taking) {
+    const bytes = Uint8Array.from(file);
+    const found = [];
+    await assert.rejects(async () => {
+      for await (const it of await CarBlockIterator.fromBytes(bytes)) {
+        found.push(it.bytes.length);
+        take(bytes);
+      }
+    }, TypeError);
+    assert.deepStrictEqual(found, [first.length]);
+    const early = Uint8Array.from(file);
+    const checked = checkCar(early);
+    take(early);
+    await assert.rejects(checked, TypeError);
+  }
+});
+
 const collected = async (out) => {
   const pieces = [];
   for await (const it of out) pieces.push(it);

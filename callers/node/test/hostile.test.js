@@ -184,6 +184,17 @@ test('bytes that change', () => {
   refused(new Uint8Array(new SharedArrayBuffer(1)));
 });
 
+test('the memory that blocks share is taken away', () => {
+  for (let i = 0; i < 3; i++) {
+    const block = encode({ a: i });
+    assert.ok(new ReadableStream({ type: 'bytes', start: (it) => it.enqueue(block) }));
+    assert.strictEqual(block.length, 0);
+    written([i, 'x'.repeat(99)], [i, 'x'.repeat(99)]);
+    assert.ok(new ReadableStream({ type: 'bytes', start: (it) => it.enqueue(encode(i)) }));
+    written('x'.repeat(2000), 'x'.repeat(2000));
+  }
+});
+
 test('classes, Maps and what they override', () => {
   class Own {
     static b = 1;

@@ -112,6 +112,7 @@ over('what is no argument', async ({ store }) => {
     () => store.put(new Uint8Array(new SharedArrayBuffer(1)), 'raw'), () => store.exportCar('a\nb'),
     () => store.importCar(''), () => Store.open(5), () => Store.open('a\ud800'), () => store.commit([{}]),
     () => store.commit({ put: text('a') }), () => all(store.putMany([{ block: text('a') }])),
+    () => store.commit([{ put: text('a'), codec: 'raw', addRoot: cid }]), () => store.commit([{ addRoot: cid, dropRoot: cid }]),
   ];
   for (const it of calls) await assert.rejects(async () => it(), TypeError);
   assert.strictEqual(await store.count(), 0);
@@ -334,6 +335,8 @@ test('what is said', () => {
     ['dagstore: the index of names has a wrong entry at row 7\n', 'StoreUnreadable'],
     ['dagstore: the table of roots has a wrong row at row 9\n', 'StoreUnreadable'],
     [`dagstore: after 2 sections\ndagstore: of ${a}\ndagstore: the block has other bytes than its name says\n`, 'InvalidCar'],
+    ['dagstore: after 2 sections\ndagstore: the input is not a CAR file: Truncated\n', 'InvalidCar'],
+    ['dagstore: after 2 sections\ndagstore: the input failed\n', 'StoreError'],
     [`dagstore: ${a} other bytes\ndagstore: what is stored under the name has other bytes than it says\n`, 'DamagedBlock'],
   ]) {
     const error = refusalOf(said);

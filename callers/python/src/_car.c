@@ -224,6 +224,9 @@ static PyObject *reader_next(PyObject *self) {
     reader->is_busy = true;
     PyObject *section = take_section(state, reader);
     reader->is_busy = false;
+    /* If the source raised it, it would be taken for the end of the sections. */
+    if (!section && PyErr_Occurred() && PyErr_ExceptionMatches(PyExc_StopIteration))
+        PyErr_SetString(PyExc_RuntimeError, "the source raised StopIteration");
     return section;
 }
 

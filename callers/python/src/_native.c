@@ -2,8 +2,8 @@
    block from objects, which the library judges.
 
    A call reads a `bytes`, which nobody writes. Any other buffer, which other threads and programs
-   may write meanwhile, is copied into one first. The interpreter's lock is let go while a big block
-   is judged or hashed. */
+   may write meanwhile, or which is of a subclass, is copied into one first. The interpreter's lock
+   is let go while `check` judges a big block, and while one is hashed. */
 #include "native.h"
 
 #include "car.h"
@@ -20,7 +20,7 @@ enum {
 
 PyObject *to_bytes(PyObject *given) {
     Py_buffer view;
-    if (PyBytes_Check(given)) return Py_NewRef(given);
+    if (PyBytes_CheckExact(given)) return Py_NewRef(given);
     if (PyObject_GetBuffer(given, &view, PyBUF_SIMPLE) < 0) return NULL;
     PyObject *bytes = PyBytes_FromStringAndSize(view.buf, view.len);
     PyBuffer_Release(&view);

@@ -38,7 +38,7 @@ static inline const uint8_t *bytes_of(PyObject *bytes) {
 
 static inline size_t length_of(PyObject *bytes) { return (size_t)PyBytes_Size(bytes); }
 
-/* A `bytes` with what the argument holds: the argument itself, if it is one. */
+/* A `bytes` with what the argument holds: the argument itself, if it is one, and of no subclass. */
 PyObject *to_bytes(PyObject *given);
 
 PyObject *new_cid(PyTypeObject *type, const uint8_t *bytes, size_t length);

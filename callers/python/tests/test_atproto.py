@@ -34,10 +34,19 @@ def test_padding_may_be_there():
 @pytest.mark.parametrize("text", [
     '{"a":1,"a":2}', '{"$link":"%s","a":1}' % LINK, '{"$bytes":"AA","$link":"%s"}' % LINK, '{"$link":1}',
     '{"$bytes":null}', '{"$bytes":"A"}', '{"$bytes":"AB"}', '{"$bytes":"A-"}', '{"$bytes":"A A"}', "{", "",
+    '{"$bytes":"="}', '{"$bytes":"===="}', '{"$bytes":"AA="}', '{"$bytes":"AA==="}', '{"$bytes":"AAEC="}', '{"$bytes":"A==="}',
 ])
 def test_what_is_none(text):
     with pytest.raises(ValueError):
         atproto.from_json(text)
+
+
+@pytest.mark.parametrize("front, end", [("[", "]"), ('{"a":', "}")])
+def test_what_is_nested_too_deep(front, end):
+    assert loads(atproto.from_json(front * 127 + "1" + end * 127))
+    for levels in (128, 500, 100_000):
+        with pytest.raises(ValueError):
+            atproto.from_json(front * levels + "1" + end * levels)
 
 
 def test_refusals_of_the_library():

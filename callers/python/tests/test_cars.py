@@ -400,6 +400,21 @@ def test_a_file_that_fails():
         check_car(Failing([PLAIN[:70], b"fail", PLAIN[70:]]))
 
 
+@pytest.mark.parametrize("file", [PLAIN, PLAIN[:-1], header()])
+def test_a_file_that_raises_stop_iteration(file):
+    """That is not the end of its sections."""
+    class Ended(Large):
+        def read(self, count):
+            return next(self.pieces)
+
+    def failing(block):
+        raise StopIteration
+
+    for reader in (read_car(Ended([file])), read_car(Ended([file[:9], file[9:]])), read_car(PLAIN, sha256=failing)):
+        with pytest.raises(RuntimeError, match="StopIteration"):
+            list(reader)
+
+
 @pytest.mark.parametrize("size", [len(PLAIN), len(PLAIN) - 1])
 def test_nothing_behind_is_read(size):
     """In version 2, after the file of version 1, which here may end inside a section."""

@@ -179,6 +179,28 @@ def test_streams(tmp_path):
                 call(other)
 
 
+class Waiting:
+    """Gives these pieces; None says that there are no bytes yet."""
+
+    def __init__(self, *pieces):
+        self.pieces = iter(pieces)
+
+    def read(self, most):
+        return next(self.pieces)
+
+
+def test_a_file_that_has_no_bytes_yet():
+    """It is not at its end, and is not taken to be."""
+    one, other = GOOD[0][1], GOOD[1][1]
+    for pieces, frames in [
+        ([None], []), ([one, None, None], [one]), ([one, other[:9], None, None], [one]), ([one, None, other, None, None], [one, other]),
+    ]:
+        found = []
+        with pytest.raises(BlockingIOError):
+            found.extend(it.frame for it in read_events(Waiting(*pieces)))
+        assert found == frames
+
+
 @pytest.mark.parametrize("byte", range(0, len(GOOD[5][1]), 7))
 def test_a_byte_that_is_another(byte):
     """It is refused, or nothing that is verified is another."""

@@ -2,6 +2,7 @@
 
 import enum
 import gc
+import io
 import os
 import subprocess
 import sys
@@ -10,7 +11,7 @@ import time
 import tracemalloc
 
 import pytest
-from dagcbor import CID, DagCborError, check, dumps, links, loads, name
+from dagcbor import CID, DagCborError, check, dumps, iter_loads, links, loads, name, write_car
 
 RECORD = {"name": "Grace Hopper", "year_of_birth": 1906, "profession": "computer scientist"}
 
@@ -71,6 +72,11 @@ def test_subclasses_are_their_data():
     assert dumps(OddStr("é")) == dumps("é") and dumps(Colour.RED) == dumps("red")
     assert dumps(OddDict(a=1)) == dumps({"a": 1}) and dumps(OddList([1, 2])) == dumps([1, 2])
     assert dumps(OddBytes(b"ab")) == dumps(b"ab") and loads(OddBytes(b"\xf6")) is None
+    assert list(iter_loads(OddBytes(b"\xf6\xf5"))) == [None, True]
+    odd, plain = io.BytesIO(), io.BytesIO()
+    for file, kind in ((odd, OddBytes), (plain, bytes)):
+        write_car(file, [], [(name(b"\x01"), kind(b"\x01"))])
+    assert odd.getvalue() == plain.getvalue()
 
 
 def test_one_key_twice():

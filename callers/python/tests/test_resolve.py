@@ -1,6 +1,7 @@
 """Where paths lead over links, beside a walk over the data of the blocks in Python."""
 
 import hashlib
+import pickle
 
 import pytest
 from dagcbor import CID, DagCborError, MissingBlock, dumps, name, resolve
@@ -103,6 +104,8 @@ def test_a_missing_block_is_no_absence():
     with pytest.raises(MissingBlock) as missing:
         resolve(BLOCKS, name(dumps(ROOT)), "links/0/none/x")
     assert missing.value.cid == MIDDLE["none"] and not isinstance(missing.value, KeyError)
+    other = pickle.loads(pickle.dumps(missing.value))
+    assert str(other) == str(missing.value) == f"no block is held under {other.cid}" and other.cid == missing.value.cid
     with pytest.raises(MissingBlock):
         resolve({}, name(dumps(ROOT)), "")
 

@@ -2,13 +2,16 @@
 The names that are expected are made here, by hashlib and base64 alone."""
 
 import base64
+import enum
 import hashlib
 import io
 import os
+import signal
 import sqlite3
 import subprocess
 import sys
 import threading
+import time
 
 import pytest
 from dagcbor import CID, DamagedBlock, InvalidBlock, InvalidCar, Store, StoreEnded, StoreError, StoreLocked, StoreUnreadable
@@ -82,6 +85,17 @@ def test_refused(store, block, codec):
     with pytest.raises(InvalidBlock, match="the block is no DAG-"):
         store.put(block, codec)
     assert len(store) == 0
+
+
+def test_a_codec_of_a_subclass(store):
+    codec = enum.Enum("Codec", {"RAW": "raw"}, type=str).RAW
+    assert store.put(b"a", codec) == name_of(b"a", 0x55) and len(store) == 1
+
+
+def test_bytes_that_lie_about_their_length(store):
+    short = type("Short", (bytes,), {"__len__": lambda self: 1})
+    cid = store.put(short(b"ab"), "raw")
+    assert cid == name_of(b"ab", 0x55) and store.get(cid) == b"ab"
 
 
 def test_names_in_the_order_of_bytes(store):
@@ -197,6 +211,21 @@ def test_import_and_export(store, path, tmp_path):
     assert len(store) == 3
 
 
+def test_a_source_that_has_no_bytes_yet(store):
+    """It is not at its end, so nothing of it is kept."""
+    class Waiting:
+        pieces = iter([car_of([b"a"], [b"a"]), None, car_of([b"b"])])
+
+        def read(self, most):
+            return next(self.pieces, b"")
+
+    with pytest.raises(BlockingIOError):
+        store.import_car(Waiting())
+    with pytest.raises(TypeError):
+        store.import_car(io.StringIO("text"))
+    assert len(store) == 0 and store.roots == []
+
+
 def test_another_has_it(store, path):
     store.put(b"a", "raw")
     with pytest.raises(StoreLocked, match="another process has the file open"):
@@ -279,6 +308,34 @@ def test_threads(store):
     assert len(store) == 400 and len(store.roots) == 40
 
 
+def test_a_signal_handler_that_asks(store):
+    """Between a request and its answer it takes no answer, and puts nothing into a block."""
+    class Interrupted:
+        def __init__(self, file):
+            self.file = file
+
+        def write(self, piece):
+            self.file.write(piece)
+            signal.raise_signal(signal.SIGUSR1)
+
+        flush = property(lambda self: self.file.flush)
+
+    def ask(*_):
+        with pytest.raises(RuntimeError, match="already at work"):
+            store.get(a)
+        asked.append(a)
+
+    a, asked, process = store.put(b"a", "raw"), [], store._process
+    before, stdin = signal.signal(signal.SIGUSR1, ask), process.stdin
+    process.stdin = Interrupted(stdin)
+    try:
+        assert store.get(store.put(b"b" * 100, "raw")) == b"b" * 100
+    finally:
+        process.stdin = stdin
+        signal.signal(signal.SIGUSR1, before)
+    assert len(asked) == 4 and store.get(a) == b"a"
+
+
 def test_a_fork_is_refused(store):
     store.put(b"a", "raw")
     child = os.fork()
@@ -290,6 +347,50 @@ def test_a_fork_is_refused(store):
         os._exit(1)
     assert os.waitpid(child, 0)[1] == 0
     assert len(store) == 1
+
+
+def test_a_fork_that_goes_on(path):
+    """It does not keep the program from its end."""
+    store = Store(path, PROGRAM)
+    store.put(b"a", "raw")
+    child = os.fork()
+    if not child:
+        time.sleep(60)
+        os._exit(0)
+    closing = threading.Thread(target=store.close)
+    closing.start()
+    closing.join(20)
+    is_closed = not closing.is_alive()
+    os.kill(child, signal.SIGKILL)
+    os.waitpid(child, 0)
+    closing.join()
+    assert is_closed
+
+
+def test_a_fork_while_another_thread_has_the_store(store):
+    begun, over = threading.Event(), threading.Event()
+
+    def work():
+        with store.batch():
+            begun.set()
+            over.wait()
+
+    thread = threading.Thread(target=work)
+    thread.start()
+    begun.wait()
+    child = os.fork()
+    if not child:
+        signal.alarm(20)
+        try:
+            len(store)
+        except StoreEnded:
+            os._exit(0)
+        finally:
+            os._exit(1)
+    over.set()
+    thread.join()
+    assert os.waitpid(child, 0)[1] == 0
+    assert len(store) == 0
 
 
 def test_where_the_program_is_found(path, monkeypatch, tmp_path):
@@ -317,6 +418,9 @@ def test_what_is_said():
         ("dagstore: out of memory\n", "StoreMemoryError"),
         ("dagstore: no number is left for a row\n", "StoreError"),
         (f"dagstore: after 2 sections\ndagstore: of {a}\ndagstore: the block has other bytes than its name says\n", "InvalidCar"),
+        ("dagstore: the input failed\n", "StoreError"),
+        ("dagstore: after 2 sections\ndagstore: the input failed\n", "StoreError"),
+        ("dagstore: after 2 sections\ndagstore: the input is not a CAR file: Truncated\n", "InvalidCar"),
         (f"dagstore: {a} other bytes\ndagstore: what is stored under the name has other bytes than it says\n", "DamagedBlock"),
     ):
         assert type(refusal_of(text)).__name__ == kind

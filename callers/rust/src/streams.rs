@@ -204,7 +204,8 @@ impl<W: Write> CarWriter<W> {
     }
 
     /// Writes a block under its name, and returns its verdict. Bytes that are not
-    /// those of the CID are refused.
+    /// those of the CID are refused. After an error of the writer, a part of the
+    /// section may be written, so the file is of no more use.
     pub fn write(&mut self, cid: &Cid, block: &[u8]) -> Result<Verdict, CarError> {
         let verdict = verify(cid, block);
         if verdict == Verdict::OtherBytes {
@@ -220,6 +221,7 @@ impl<W: Write> CarWriter<W> {
         self.writer
     }
 }
+
 /// Makes it the parts, with their length in front.
 fn put_length_and(section: &mut Vec<u8>, parts: &[&[u8]]) {
     let mut room = [0; 10];

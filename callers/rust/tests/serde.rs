@@ -568,6 +568,33 @@ fn no_newtype_takes_a_link() {
     both(Record::Values(all), &record);
 }
 
+/// Serde's limit: the data of `ipld-core` takes a link that was held back by the same calls.
+#[test]
+fn a_newtype_in_a_newtype_takes_a_link() {
+    #[derive(Debug, PartialEq, Deserialize)]
+    struct Inner<T>(T);
+    #[derive(Debug, PartialEq, Deserialize)]
+    struct Outer<T>(Inner<T>);
+    #[derive(Debug, PartialEq, Deserialize)]
+    #[serde(untagged)]
+    enum Held<T, U> {
+        First(T),
+        Second(U),
+    }
+    let cid = Cid::try_from(&b"\x01\x55\0\0"[..]).unwrap();
+    let link = b"\xd8\x2a\x45\0\x01\x55\0\0";
+    assert_eq!(
+        from_slice::<Held<Outer<Bytes>, Cid>>(link).unwrap(),
+        Held::First(Outer(Inner(Bytes(cid.to_bytes()))))
+    );
+    assert_eq!(
+        from_slice::<Held<Cid, Outer<Bytes>>>(link).unwrap(),
+        Held::First(cid)
+    );
+    assert!(from_slice::<Held<Inner<Bytes>, u8>>(link).is_err());
+    assert!(from_slice::<Outer<Bytes>>(link).is_err());
+}
+
 #[test]
 fn other_fields_are_kept() {
     #[derive(Debug, PartialEq, Serialize, Deserialize)]

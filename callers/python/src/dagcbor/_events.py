@@ -184,7 +184,7 @@ def read_events(source: Buffer | Readable, /) -> Iterator[Event]:
     """Yields the frames in bytes or a binary file, one after the other.
 
     The first that is not a frame raises an EventError, and ends the iteration. For a file, the frame
-    that is read and a piece of the file are in memory.
+    that is read and a piece of the file are in memory; if no frame ends in the rest, all of the rest.
     """
     if hasattr(source, "read"):
         file = cast("Readable", source)
@@ -251,6 +251,8 @@ def _read(file: Readable, most: int) -> bytes:
     while left and (piece := file.read(left)):
         pieces.append(piece)
         left -= len(piece)
+    if not pieces and piece is None:
+        raise BlockingIOError("read() has no bytes yet")
     return b"".join(pieces)
 
 

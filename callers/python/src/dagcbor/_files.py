@@ -6,6 +6,8 @@ from io import RawIOBase
 from typing import TYPE_CHECKING, Protocol
 
 if TYPE_CHECKING:
+    from collections.abc import Iterator
+
     from ._native import Readable
 
 PIECE = 1 << 18
@@ -15,14 +17,17 @@ class Writable(Protocol):
     def write(self, piece: bytes, /) -> int | None: ...
 
 
-def read_all(file: Readable) -> bytes:
-    """Reads all that the file has, from its position on."""
-    pieces = []
+def pieces_of(file: Readable) -> Iterator[bytes]:
+    """Yields all that the file has, from its position on."""
     while piece := file.read(PIECE):
-        pieces.append(piece)
+        yield piece
     if piece is None:
         raise BlockingIOError("read() has no bytes yet")
-    return b"".join(pieces)
+
+
+def read_all(file: Readable) -> bytes:
+    """Reads all that the file has, from its position on."""
+    return b"".join(pieces_of(file))
 
 
 def put(file: Writable, piece: bytes) -> None:

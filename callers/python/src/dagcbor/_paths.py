@@ -51,8 +51,11 @@ class MissingBlock(LookupError):
     """A block on the way is not held, so it is not known what the path leads to. `cid` names the block."""
 
     def __init__(self, cid: CID) -> None:
-        super().__init__(f"no block is held under {cid}")
+        super().__init__(cid)
         self.cid = cid
+
+    def __str__(self) -> str:
+        return f"no block is held under {self.cid}"
 
 
 def _block_of(get: Callable[[CID], Buffer | None], cid: CID) -> bytes:

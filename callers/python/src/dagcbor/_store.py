@@ -12,8 +12,10 @@ import shutil
 import subprocess
 import tempfile
 import threading
+import weakref
 from typing import IO, TYPE_CHECKING, NamedTuple, TypeVar, overload
 
+from ._files import pieces_of
 from ._native import CID, to_bytes
 
 if TYPE_CHECKING:
@@ -101,7 +103,7 @@ def refusal_of(said: str) -> StoreError:
     if why.startswith("what is stored under the name"):
         name = lines[0].partition(" ")[0] if len(lines) > 1 else ""
         return DamagedBlock(text, CID(name) if name else None)
-    if any(it.startswith("after ") for it in lines[:-1]):
+    if why != "the input failed" and any(it.startswith("after ") for it in lines[:-1]):
         return InvalidCar(text)
     return next((kind(text) for start, kind in REFUSALS if re.match(start, why)), StoreError(text))
 
@@ -141,7 +143,7 @@ class Store:
         self, path: str | os.PathLike[str], program: str | os.PathLike[str] | None = None
     ) -> None:
         self._lock = threading.RLock()
-        self._in_batch = False
+        self._in_batch = self._is_busy = False
         self._failed: StoreError | None = None
         self._pid = os.getpid()
         self._process: subprocess.Popen[bytes] | None = None
@@ -150,6 +152,7 @@ class Store:
         self._process = subprocess.Popen(
             words, stdin=pipe, stdout=pipe, stderr=pipe, process_group=0
         )
+        STORES.add(self)
         self._ask("rollback")
 
     # ---- one exchange
@@ -171,7 +174,10 @@ class Store:
             raise StoreEnded("the store is closed")
         if os.getpid() != self._pid:
             raise StoreEnded("the store was opened by another process than this one")
+        if self._is_busy:  # what asks is a signal handler, or a finalizer, of the thread that has the lock
+            raise RuntimeError("the store is already at work")
         assert process.stdin and process.stdout
+        self._is_busy = True
         try:
             process.stdin.write(request)
             process.stdin.write(block)
@@ -187,6 +193,8 @@ class Store:
             # It is not known what was answered, so nothing more is asked.
             self._ended(process)
             raise
+        finally:
+            self._is_busy = False
         return word, body
 
     def _ask(self, request: str, block: bytes = b"") -> bytes | None:
@@ -311,7 +319,7 @@ class Store:
                 return self._import(path_of(source))
         with tempfile.NamedTemporaryFile(suffix=".car") as copy:
             if hasattr(source, "read"):
-                shutil.copyfileobj(source, copy)
+                copy.writelines(pieces_of(source))
             else:
                 copy.write(to_bytes(source))
             copy.flush()
@@ -352,6 +360,22 @@ class Store:
             self.close()
 
 
+STORES: weakref.WeakSet[Store] = weakref.WeakSet()
+
+
+def let_go() -> None:
+    """In a forked process, lets go of its parent's stores. Else their programs would not end before it,
+    and a lock would stay that of a thread which this process does not have."""
+    with open(os.devnull, "wb") as nothing:
+        for store in STORES:
+            store._lock = threading.RLock()
+            if store._process is not None and store._process.stdin and not store._process.stdin.closed:
+                os.dup2(nothing.fileno(), store._process.stdin.fileno(), inheritable=False)
+
+
+os.register_at_fork(after_in_child=let_go)
+
+
 def text_of(cid: CID) -> str:
     if not isinstance(cid, CID):
         raise TypeError(f"a CID is wanted, and not {type(cid).__name__}")
@@ -363,7 +387,7 @@ def codec_of(codec: str | int) -> str:
     if isinstance(codec, str):
         if codec not in CODECS:
             raise ValueError("a codec is 'dag-cbor', 'raw' or a number")
-        return codec
+        return CODECS[CODECS.index(codec)]  # a subclass may be written in another way
     if not 0 <= codec < 2**64:
         raise ValueError("a codec has 64 bits")
     return f"0x{codec:x}"

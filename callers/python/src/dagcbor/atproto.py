@@ -85,7 +85,11 @@ def from_json(text: str | Buffer, /) -> bytes:
     fraction are refused as `dumps` refuses a float.
     """
     given = text if isinstance(text, str) else to_bytes(text).decode()
-    return dumps(json.loads(given, object_pairs_hook=_heard))
+    try:
+        value = json.loads(given, object_pairs_hook=_heard)
+    except RecursionError:
+        raise ValueError("lists and maps are nested too deep") from None
+    return dumps(value)
 
 
 def _told(value: Any) -> Any:
@@ -122,10 +126,13 @@ def _heard(pairs: list[tuple[str, Any]]) -> Any:
 def _bytes_of(text: str) -> bytes:
     """Returns the bytes that the base64 says, with its padding or without."""
     digits = text.rstrip("=")
+    padded = digits + "=" * (-len(digits) % 4)
+    if text not in (digits, padded):
+        raise ValueError("$bytes is no base64: its padding is another")
     try:
-        found = base64.b64decode(digits + "=" * (-len(digits) % 4), validate=True)
+        found = base64.b64decode(padded, validate=True)
     except binascii.Error as error:
         raise ValueError(f"$bytes is no base64: {error}") from None
-    if base64.b64encode(found).decode().rstrip("=") != digits:
+    if base64.b64encode(found).decode() != padded:
         raise ValueError("$bytes is no base64: bits are left over")
     return found

@@ -1,8 +1,8 @@
 //! Validates blocks of the codecs whose links are read.
 
-ghost use Rattle.std.specs.Prelude.{◌↔◌, IsTrue, MatchBool};
+ghost use Rattle.std.specs.Prelude.{◌↔◌, IsTrue};
 ghost use Rattle.dag_pb.specs.Node.{HasNode};
-ghost use Rattle.ipld_links.specs.Blocks.{HasBlock, IsBlockOf, IsReadCodec};
+ghost use Rattle.ipld_links.specs.Blocks.{HasBlock, IsBlockOf};
 
 use crate::name::{DAG_CBOR, DAG_PB};
 use dag_pb::check_node;
@@ -20,13 +20,6 @@ pub fn is_node(bytes: &[u8]) -> bool
     ensures { IsTrue result ↔ HasNode bytes.now }
 {
     check_node(bytes).is_ok()
-}
-
-/// Returns whether links are read in blocks of the codec: it is DAG-CBOR or DAG-PB.
-pub fn is_read_codec(codec: u64) -> bool
-    ensures { MatchBool result (IsReadCodec codec) (¬ IsReadCodec codec) }
-{
-    codec == DAG_CBOR || codec == DAG_PB
 }
 
 /// Returns whether the codec is DAG-CBOR or DAG-PB, and the bytes are a block of it. Links are read

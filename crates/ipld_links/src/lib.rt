@@ -11,7 +11,7 @@ mod reach;
 mod sound;
 mod verdict;
 
-pub use block::{is_block_of, is_item, is_node, is_read_codec};
+pub use block::{is_block_of, is_item, is_node};
 pub use cid_set::CidSet;
 pub use held::HeldNames;
 pub use links::links_of_block;

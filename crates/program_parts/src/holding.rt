@@ -73,8 +73,8 @@ fn is_good(kept: Kept, section: &Section<'_>) -> bool
 /// decides.
 fn replaces(kept: Kept, held: Option<&[u8]>, section: &Section<'_>) -> bool
     ensures { MatchBool result
-        (Replaces kept (option_map (λ b. b.now) held) (section.now.cid, section.now.block.now))
-        (Yields kept (option_map (λ b. b.now) held) (section.now.cid, section.now.block.now)) }
+        (Replaces kept (option_map (λ b. b.now) held.entry) (section.now.cid, section.now.block.now))
+        (Yields kept (option_map (λ b. b.now) held.entry) (section.now.cid, section.now.block.now)) }
 {
     match held {
         Some(block) if block == section.block => false,

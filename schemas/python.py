@@ -315,9 +315,14 @@ class Python(Language):
     def list_type(self, item):
         return f"list[{item}]"
 
+    def is_text(self, one):
+        """Returns true if a name of other types is in quotation marks: these may come after it, or one of them is such a name."""
+        held = self.schema.held(one) if isinstance(one, Alias) or is_a(one, "union_kinded") else []
+        return isinstance(one, (Alias, Union)) and (one.name in self.schema.recursive or any(map(self.is_text, held)))
+
     def alias(self, one, kinds):
-        """A name of other types, in quotation marks if these may come after it."""
-        mark = '"' if one.name in self.schema.recursive else ""
+        """A name of other types."""
+        mark = '"' if self.is_text(one) else ""
         line = f"{one.name}: TypeAlias = {mark}{' | '.join(kinds)}{mark}"
         if len(line) <= WIDTH:
             return [*comments(one.text, 0), line]

@@ -276,6 +276,8 @@ MADE_IN = [
     ("python", KEYS, "    vinyl: str | None = None"),
     ("python", "type A unit representation true", "    _unit(True, value, at)"),
     ("python", RECURSIVE, 'Node: TypeAlias = "Tree | Small"'),
+    ("python", RECURSIVE + "\ntype Trees [nullable Tree]", 'Trees: TypeAlias = "list[Tree | None]"'),
+    ("python", RECURSIVE + "\ntype B union {\n  | Trees list\n  | Int int\n} representation kinded\ntype Trees = Tree", 'B: TypeAlias = "Trees | int"'),
     ("python", RECURSIVE, "    return _list_of(_nullable(_write_node))(value, at)"),
     ("python", RECURSIVE, "    _bounded(at)"),
     ("python", RECURSIVE, "        case int() if not isinstance(value, bool):"),

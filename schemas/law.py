@@ -125,6 +125,9 @@ class Schema:
         return kind
 
     def resolved_part(self, kind):
+        one = self.named(kind)
+        if isinstance(one, Alias) and isinstance(one.of, Named):
+            return self.resolved_part(one.of)
         return kind if self.is_recursive_alias(kind) else self.resolve(kind)
 
     def named(self, kind):

@@ -229,6 +229,7 @@ UNPROVED = [
     "type A struct {\n  kids [A]\n  next optional A\n}",
     'type A union {\n  | A "a"\n  | Int "i"\n} representation keyed',
     "type A [B]\ntype B {String:C}\ntype C = A",
+    "type A [nullable B]\ntype B = C\ntype C = A",
     RECURSIVE,
     IMPLIED_MEMBERS,
     INLINE.replace("C struct { # open", "C struct {"),

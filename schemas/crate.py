@@ -34,9 +34,13 @@ def made_of(path, make, is_proved):
 
 
 def refuse_names(schemas, names):
+    seen = {}
     for path in schemas:
         if path.stem in names:
             raise CrateError(f"{path}: no module can be named {path.stem}")
+        if path.stem in seen:
+            raise CrateError(f"{path}: {seen[path.stem]} makes the module {path.stem} already")
+        seen[path.stem] = path
 
 
 def files_of(schemas, folder, language=None):
@@ -119,17 +123,18 @@ def write(made, check, language=None):
     """Writes the files, and returns a line for each that differed. A crate is made from all of its schemas. In a folder of
     another language each file is by itself, and the files of other calls stay."""
     folder, files = made
+    found = {path: text_of(path) for path in files if path.exists()}
+    for path, text in found.items():
+        if text != files[path] and not is_made(text):
+            raise CrateError(f"{shown(path)} was not made by this tool: move it away first")
     told = []
     for path in left_over(folder, files) if language is None else ():
         told.append(f"{'left over' if check else 'removed'}: {shown(path)}")
         if not check:
             path.unlink()
     for path, text in files.items():
-        found = text_of(path) if path.exists() else None
-        if found == text:
+        if found.get(path) == text:
             continue
-        if found is not None and not is_made(found):
-            raise CrateError(f"{shown(path)} was not made by this tool: move it away first")
         told.append(f"{'differs' if check else 'written'}: {shown(path)}")
         if not check:
             path.parent.mkdir(parents=True, exist_ok=True)

@@ -19,7 +19,7 @@ import tempfile
 import time
 from dataclasses import dataclass
 
-from schemas.crate import LANGUAGES, STANDS_ON, files_of, write
+from schemas.crate import LANGUAGES, STANDS_ON, CrateError, files_of, write
 from schemas.drawing import drawn
 from schemas.language import KNOWN
 from schemas.law import Schema
@@ -416,6 +416,7 @@ def failures():
     for make in LANGUAGES.values():
         yield more_is_told(make)
     yield from left_alone()
+    yield from refused_whole()
 
 
 def left_alone():
@@ -431,6 +432,37 @@ def left_alone():
         told = write(files_of([folder / "a.ipldsch"], folder, "python"), True, "python")
     wanted = ["a.py", "b.py", "other.py"]
     yield None if (stand, told) == (wanted, []) else f"{stand} stand, and {told} is told, in place of {wanted}"
+
+
+def refused_whole():
+    """If one file is refused, none is written and none is removed."""
+    with tempfile.TemporaryDirectory() as name:
+        folder = pathlib.Path(name)
+        schemas = [folder / f"{stem}.ipldsch" for stem in ("a", "b")]
+        for schema in schemas:
+            schema.write_text(f"type {schema.stem.upper()} struct {{\n  x Int\n}}\n", encoding="utf-8")
+        crate = folder / "crates" / "music"
+        write(files_of(schemas[:1], crate), check=False)
+        (crate / "src" / "lib.rt").write_text("//! By hand.\n", encoding="utf-8")
+        (folder / "b.py").write_text("# By hand.\n", encoding="utf-8")
+        stand = sorted(folder.rglob("*"))
+        by_hand = "was not made by this tool: move it away first"
+        for made, language, wanted in ((lambda: files_of(schemas[1:], crate), None, by_hand), (lambda: files_of(schemas, folder, "python"), "python", by_hand)):
+            found = crate_refusal(made, language)
+            yield None if found.endswith(wanted) and sorted(folder.rglob("*")) == stand else f"{found}, and {sorted(folder.rglob('*'))} stand, in place of {stand}"
+        (folder / "c").mkdir()
+        other = shutil.copy(schemas[0], folder / "c")
+        for language in (None, *LANGUAGES):
+            found = crate_refusal(lambda: files_of([*schemas, pathlib.Path(other)], crate, language), language)
+            yield None if found == f"{other}: {schemas[0]} makes the module a already" else found
+
+
+def crate_refusal(made, language):
+    try:
+        write(made(), False, language)
+    except CrateError as error:
+        return str(error)
+    return "none"
 
 
 def judge(results):

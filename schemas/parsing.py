@@ -322,7 +322,7 @@ class Parser:
 
     def schema(self):
         definitions = []
-        while self.peek().kind != "end":
+        while not definitions or self.peek().kind != "end":
             if self.is_next("advanced"):
                 raise SchemaError(self.peek().place, "advanced data layouts are not supported")
             definitions.append(self.definition(self.expect("type").place.line))
@@ -352,7 +352,7 @@ class Parser:
         made = Alias(name.word, self.value_type(lower=True), name.place)
         if self.take_if("representation"):
             token = self.expect_name("a representation")
-            if token.word not in ("list", "map"):
+            if token.word != {ListOf: "list", MapOf: "map"}.get(type(made.of)):
                 raise SchemaError(token.place, f"the representation {token.word} of `{name.word}` is not supported")
         return made
 
@@ -427,6 +427,7 @@ class Parser:
         brace = self.take_if("{")
         while brace and not self.take_if("}"):
             token = self.expect_name("an option")
+            refuse_again(found, token)
             if token.word not in wanted:
                 raise SchemaError(token.place, f"`{token.word}` is not an option of {representation.word} here"
                                   + (': a field is renamed by `(rename "a")` after its type' if token.word == "fields" else ""))
@@ -440,17 +441,19 @@ class Parser:
         name = self.expect_name("the name of a field")
         optional = bool(self.take_if("optional"))
         kind = self.maybe_null()
-        key, implicit = name.word, None
+        said = {}
         if self.take_if("("):
             while not self.take_if(")"):
                 word = self.expect_name("`rename` or `implicit`")
+                refuse_again(said, word)
                 if word.word == "rename":
-                    key = self.expect_text("the name in the data").word
+                    said["rename"] = self.expect_text("the name in the data").word
                 elif word.word == "implicit":
-                    implicit = self.literal()
+                    said["implicit"] = self.literal()
                 else:
                     raise SchemaError(word.place, f"`{word.word}` is not supported: `rename` and `implicit` are")
-        return Field(name.word, kind, optional, key, name.place, self.text_above(name.place.line), implicit)
+        text = self.text_above(name.place.line)
+        return Field(name.word, kind, optional, said.get("rename", name.word), name.place, text, said.get("implicit"))
 
     def literal(self):
         token = self.take()
@@ -513,6 +516,11 @@ def case_name(held):
     if isinstance(held, Link):
         return "Link"
     raise SchemaError(held.place, "the members of a union have names: define this type by `type`")
+
+
+def refuse_again(said, token):
+    if token.word in said:
+        raise SchemaError(token.place, f"`{token.word}` is said twice here")
 
 
 def unwanted(token, what, form=","):

@@ -424,6 +424,7 @@ def failures():
         yield more_is_told(make)
     yield from left_alone()
     yield from refused_whole()
+    yield from told_in_words()
 
 
 def left_alone():
@@ -462,6 +463,18 @@ def refused_whole():
         for language in (None, *LANGUAGES):
             found = crate_refusal(lambda: files_of([*schemas, pathlib.Path(other)], crate, language), language)
             yield None if found == f"{other}: {schemas[0]} makes the module a already" else found
+
+
+def told_in_words():
+    """What the system refuses is told in one line too."""
+    with tempfile.TemporaryDirectory() as name:
+        folder = pathlib.Path(name)
+        (folder / "a.ipldsch").write_text("type A struct {}\n", encoding="utf-8")
+        (folder / "file").write_text("", encoding="utf-8")
+        (folder / "a.py").mkdir()
+        for into in (folder, folder / "file"):
+            status, log = ran(ROOT / "dagcbor-types", "--language", "python", folder / "a.ipldsch", into, folder=folder)
+            yield None if status == 1 and log.startswith("dagcbor-types: ") and log.count("\n") == 1 else f"{into}: {log}"
 
 
 def crate_refusal(made, language):

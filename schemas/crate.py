@@ -66,8 +66,11 @@ def files_of_crate(schemas, crate):
         return Module(schema, crate.name, name)
 
     modules = sorted((made_of(path, module_of, is_proved=True) for path in schemas), key=lambda module: module.name)
-    seen = {}
+    seen, paths = {}, {}
     for module in modules:
+        if module.path in paths:
+            raise CrateError(f"{paths[module.path]} and {module.name} have one name in specs: {module.path}")
+        paths[module.path] = module.name
         for one in module.definitions:
             if one.name in seen:
                 raise CrateError(f"`{one.name}` is a type both of {seen[one.name]} and of {module.name}")

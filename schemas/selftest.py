@@ -463,6 +463,9 @@ def refused_whole():
         for language in (None, *LANGUAGES):
             found = crate_refusal(lambda: files_of([*schemas, pathlib.Path(other)], crate, language), language)
             yield None if found == f"{other}: {schemas[0]} makes the module a already" else found
+        same = [shutil.copy(schema, folder / f"{stem}.ipldsch") for schema, stem in zip(schemas, ("c1", "c_1"))]
+        found = crate_refusal(lambda: files_of(list(map(pathlib.Path, same)), crate), None)
+        yield None if found == "c1 and c_1 have one name in specs: C1" else found
 
 
 def told_in_words():

@@ -11,7 +11,7 @@ from schemas.rattle import Module
 from schemas.typescript import TypeScript
 
 LANGUAGES = {"python": Python, "typescript": TypeScript}
-MADE = "by ./dagcbor-types"
+MADE = ", by ./dagcbor-types."  # which the first line of each made file has
 STANDS_ON = "serde_ipld_dagcbor types_schema dagcbor_read"
 
 
@@ -88,7 +88,7 @@ def files_of_crate(schemas, crate):
 
 def lib_of(modules):
     names = ", ".join(f"{module.name}.ipldsch" for module in modules)
-    rows = [f"//! The types of {names}, {MADE}.", "#![tactic(auto)]", ""]
+    rows = [f"//! The types of {names}{MADE}", "#![tactic(auto)]", ""]
     rows += [f"mod {module.name};" for module in modules] + [""]
     by_name = {module.name: module for module in modules}
     for name in in_order(by_name):
@@ -97,7 +97,7 @@ def lib_of(modules):
 
 
 def specs_of(modules):
-    rows = [f"-- What a tree shows to each type, {MADE}."]
+    rows = [f"-- What a tree shows to each type{MADE}"]
     return "\n".join(rows + [f"pub mod {path_name(module.name)}" for module in modules]) + "\n"
 
 

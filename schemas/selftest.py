@@ -423,6 +423,7 @@ def failures():
     for make in LANGUAGES.values():
         yield more_is_told(make)
     yield from left_alone()
+    yield from by_hand_left()
     yield from refused_whole()
     yield from told_in_words()
 
@@ -431,7 +432,7 @@ def left_alone():
     """In a folder of another language each schema's file is by itself: those that are there stay, even if they are not UTF-8."""
     with tempfile.TemporaryDirectory() as name:
         folder = pathlib.Path(name)
-        (folder / "other.py").write_bytes(b"# by ./dagcbor-types \xff\n")
+        (folder / "other.py").write_bytes(b"# A, by ./dagcbor-types. \xff\n")
         for stem in ("a", "b"):
             schema = folder / f"{stem}.ipldsch"
             schema.write_text("type A struct {\n  x Int\n}\n", encoding="utf-8")
@@ -440,6 +441,18 @@ def left_alone():
         told = write(files_of([folder / "a.ipldsch"], folder, "python"), True, "python")
     wanted = ["a.py", "b.py", "other.py"]
     yield None if (stand, told) == (wanted, []) else f"{stand} stand, and {told} is told, in place of {wanted}"
+
+
+def by_hand_left():
+    """A file of a crate that tells of the tool stays."""
+    with tempfile.TemporaryDirectory() as name:
+        folder = pathlib.Path(name)
+        (folder / "a.ipldsch").write_text("type A struct {}\n", encoding="utf-8")
+        by_hand = folder / "crates" / "music" / "src" / "tests.rt"
+        by_hand.parent.mkdir(parents=True)
+        by_hand.write_text("//! Tests of the types made by ./dagcbor-types.\n", encoding="utf-8")
+        write(files_of([folder / "a.ipldsch"], folder / "crates" / "music"), check=False)
+        yield None if by_hand.exists() else f"{by_hand} is removed"
 
 
 def refused_whole():

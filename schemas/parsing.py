@@ -240,6 +240,7 @@ class Parser:
         self.tokens, self.comments = scanner.tokens, scanner.comments
         self.at = 0
         self.noted = set()  # the lines whose notes have been used
+        self.begins = {token.place.line: token.place for token in reversed(self.tokens)}  # what stands first on each line
 
     # -- tokens
 
@@ -295,10 +296,11 @@ class Parser:
 
     # -- comments
 
-    def text_above(self, line):
-        """The comments that stand alone on the lines right above."""
-        above = []
-        while line - 1 in self.comments and self.comments[line - 1][1]:
+    def text_above(self, place):
+        """The comments that stand alone on the lines right above what begins a line."""
+        above, line = [], place.line
+        is_first = self.begins[line] == place
+        while is_first and line - 1 in self.comments and self.comments[line - 1][1]:
             line -= 1
             above.insert(0, self.comments[line][0])
         return above
@@ -325,7 +327,7 @@ class Parser:
         while not definitions or self.peek().kind != "end":
             if self.is_next("advanced"):
                 raise SchemaError(self.peek().place, "advanced data layouts are not supported")
-            definitions.append(self.definition(self.expect("type").place.line))
+            definitions.append(self.definition(self.expect("type").place))
         self.refuse_idle_notes()
         return definitions
 
@@ -334,9 +336,9 @@ class Parser:
             if not alone and line not in self.noted and re.fullmatch(r"as [ui][0-9]+|open", text):
                 raise SchemaError(place, f"`# {text}` applies to nothing on this line")
 
-    def definition(self, line):
+    def definition(self, place):
         name = self.expect_name("the name of a type")
-        text = self.text_above(line)
+        text = self.text_above(place)
         forms = {"struct": self.struct, "enum": self.enum, "union": self.union, "unit": self.unit}
         make = forms[self.take().word] if self.is_next(*forms) else self.alias
         made = make(name)
@@ -452,7 +454,7 @@ class Parser:
                     said["implicit"] = self.literal()
                 else:
                     raise SchemaError(word.place, f"`{word.word}` is not supported: `rename` and `implicit` are")
-        text = self.text_above(name.place.line)
+        text = self.text_above(name.place)
         return Field(name.word, kind, optional, said.get("rename", name.word), name.place, text, said.get("implicit"))
 
     def literal(self):

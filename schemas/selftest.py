@@ -422,6 +422,8 @@ def failures():
         yield None if found != "none" and set(others) == {"none"} else f"{text}\n    is refused by: {found}, {others}"
     for make in LANGUAGES.values():
         yield more_is_told(make)
+    count = made_in("python", "# About A.\ntype A struct { x Int y Int }").count("About A.")
+    yield None if count == 1 else f"the comment above a type of one line is made {count} times"
     yield from left_alone()
     yield from by_hand_left()
     yield from refused_whole()

@@ -115,7 +115,8 @@ def left_over(crate, files):
 
 def text_of(path):
     """Returns the text of a file, which others may have written."""
-    return path.read_text(encoding="utf-8", errors="replace")
+    with path.open(encoding="utf-8", errors="replace", newline="") as file:
+        return file.read()
 
 
 def is_made(text):
@@ -141,7 +142,7 @@ def write(made, check, language=None):
         told.append(f"{'differs' if check else 'written'}: {shown(path)}")
         if not check:
             path.parent.mkdir(parents=True, exist_ok=True)
-            path.write_text(text, encoding="utf-8")
+            path.write_text(text, encoding="utf-8", newline="\n")
     return told + listed(folder, check) if language is None else told
 
 

@@ -425,6 +425,7 @@ def failures():
     count = made_in("python", "# About A.\ntype A struct { x Int y Int }").count("About A.")
     yield None if count == 1 else f"the comment above a type of one line is made {count} times"
     yield from left_alone()
+    yield from line_ends()
     yield from by_hand_left()
     yield from refused_whole()
     yield from told_in_words()
@@ -443,6 +444,19 @@ def left_alone():
         told = write(files_of([folder / "a.ipldsch"], folder, "python"), True, "python")
     wanted = ["a.py", "b.py", "other.py"]
     yield None if (stand, told) == (wanted, []) else f"{stand} stand, and {told} is told, in place of {wanted}"
+
+
+def line_ends():
+    """A file that differs in the ends of its lines differs."""
+    with tempfile.TemporaryDirectory() as name:
+        folder = pathlib.Path(name)
+        (folder / "a.ipldsch").write_text("type A struct {}\n", encoding="utf-8")
+        made = files_of([folder / "a.ipldsch"], folder, "python")
+        write(made, False, "python")
+        text = (folder / "a.py").read_bytes()
+        (folder / "a.py").write_bytes(text.replace(b"\n", b"\r\n"))
+        told = [len(write(made, check, "python")) for check in (True, False, True)]
+        yield None if told == [1, 1, 0] and (folder / "a.py").read_bytes() == text else f"{told} differ"
 
 
 def by_hand_left():

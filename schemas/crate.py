@@ -11,7 +11,7 @@ from schemas.rattle import Module
 from schemas.typescript import TypeScript
 
 LANGUAGES = {"python": Python, "typescript": TypeScript}
-MADE = "by ./dagcbor-types"
+MADE = ", by ./dagcbor-types."  # which the first line of each made file has
 STANDS_ON = "serde_ipld_dagcbor types_schema dagcbor_read"
 
 
@@ -34,9 +34,13 @@ def made_of(path, make, is_proved):
 
 
 def refuse_names(schemas, names):
+    seen = {}
     for path in schemas:
         if path.stem in names:
             raise CrateError(f"{path}: no module can be named {path.stem}")
+        if path.stem in seen:
+            raise CrateError(f"{path}: {seen[path.stem]} makes the module {path.stem} already")
+        seen[path.stem] = path
 
 
 def files_of(schemas, folder, language=None):
@@ -62,8 +66,11 @@ def files_of_crate(schemas, crate):
         return Module(schema, crate.name, name)
 
     modules = sorted((made_of(path, module_of, is_proved=True) for path in schemas), key=lambda module: module.name)
-    seen = {}
+    seen, paths = {}, {}
     for module in modules:
+        if module.path in paths:
+            raise CrateError(f"{paths[module.path]} and {module.name} have one name in specs: {module.path}")
+        paths[module.path] = module.name
         for one in module.definitions:
             if one.name in seen:
                 raise CrateError(f"`{one.name}` is a type both of {seen[one.name]} and of {module.name}")
@@ -81,7 +88,7 @@ def files_of_crate(schemas, crate):
 
 def lib_of(modules):
     names = ", ".join(f"{module.name}.ipldsch" for module in modules)
-    rows = [f"//! The types of {names}, {MADE}.", "#![tactic(auto)]", ""]
+    rows = [f"//! The types of {names}{MADE}", "#![tactic(auto)]", ""]
     rows += [f"mod {module.name};" for module in modules] + [""]
     by_name = {module.name: module for module in modules}
     for name in in_order(by_name):
@@ -90,7 +97,7 @@ def lib_of(modules):
 
 
 def specs_of(modules):
-    rows = [f"-- What a tree shows to each type, {MADE}."]
+    rows = [f"-- What a tree shows to each type{MADE}"]
     return "\n".join(rows + [f"pub mod {path_name(module.name)}" for module in modules]) + "\n"
 
 
@@ -108,7 +115,8 @@ def left_over(crate, files):
 
 def text_of(path):
     """Returns the text of a file, which others may have written."""
-    return path.read_text(encoding="utf-8", errors="replace")
+    with path.open(encoding="utf-8", errors="replace", newline="") as file:
+        return file.read()
 
 
 def is_made(text):
@@ -119,21 +127,22 @@ def write(made, check, language=None):
     """Writes the files, and returns a line for each that differed. A crate is made from all of its schemas. In a folder of
     another language each file is by itself, and the files of other calls stay."""
     folder, files = made
+    found = {path: text_of(path) for path in files if path.exists()}
+    for path, text in found.items():
+        if text != files[path] and not is_made(text):
+            raise CrateError(f"{shown(path)} was not made by this tool: move it away first")
     told = []
     for path in left_over(folder, files) if language is None else ():
         told.append(f"{'left over' if check else 'removed'}: {shown(path)}")
         if not check:
             path.unlink()
     for path, text in files.items():
-        found = text_of(path) if path.exists() else None
-        if found == text:
+        if found.get(path) == text:
             continue
-        if found is not None and not is_made(found):
-            raise CrateError(f"{shown(path)} was not made by this tool: move it away first")
         told.append(f"{'differs' if check else 'written'}: {shown(path)}")
         if not check:
             path.parent.mkdir(parents=True, exist_ok=True)
-            path.write_text(text, encoding="utf-8")
+            path.write_text(text, encoding="utf-8", newline="\n")
     return told + listed(folder, check) if language is None else told
 
 

@@ -125,6 +125,9 @@ class Schema:
         return kind
 
     def resolved_part(self, kind):
+        one = self.named(kind)
+        if isinstance(one, Alias) and isinstance(one.of, Named):
+            return self.resolved_part(one.of)
         return kind if self.is_recursive_alias(kind) else self.resolve(kind)
 
     def named(self, kind):
@@ -209,7 +212,8 @@ class Schema:
         enum = self.named(kind)
         if isinstance(enum, Enum):
             for member in enum.members:
-                if value == member.data or enum.representation == "int" and value == str(member.data):
+                is_number = enum.representation == "int" and value == str(member.data)
+                if (value == member.data or is_number) and not isinstance(value, bool):
                     return Literal(member, place)
             raise SchemaError(place, f"{value} is not a member of `{enum.name}`: `{field.name}`")
         if isinstance(kind, Int) and re.fullmatch(r"0|-?[1-9][0-9]*", str(value)):

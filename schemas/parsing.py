@@ -240,6 +240,7 @@ class Parser:
         self.tokens, self.comments = scanner.tokens, scanner.comments
         self.at = 0
         self.noted = set()  # the lines whose notes have been used
+        self.begins = {token.place.line: token.place for token in reversed(self.tokens)}  # what stands first on each line
 
     # -- tokens
 
@@ -295,10 +296,11 @@ class Parser:
 
     # -- comments
 
-    def text_above(self, line):
-        """The comments that stand alone on the lines right above."""
-        above = []
-        while line - 1 in self.comments and self.comments[line - 1][1]:
+    def text_above(self, place):
+        """The comments that stand alone on the lines right above what begins a line."""
+        above, line = [], place.line
+        is_first = self.begins[line] == place
+        while is_first and line - 1 in self.comments and self.comments[line - 1][1]:
             line -= 1
             above.insert(0, self.comments[line][0])
         return above
@@ -322,10 +324,10 @@ class Parser:
 
     def schema(self):
         definitions = []
-        while self.peek().kind != "end":
+        while not definitions or self.peek().kind != "end":
             if self.is_next("advanced"):
                 raise SchemaError(self.peek().place, "advanced data layouts are not supported")
-            definitions.append(self.definition(self.expect("type").place.line))
+            definitions.append(self.definition(self.expect("type").place))
         self.refuse_idle_notes()
         return definitions
 
@@ -334,9 +336,9 @@ class Parser:
             if not alone and line not in self.noted and re.fullmatch(r"as [ui][0-9]+|open", text):
                 raise SchemaError(place, f"`# {text}` applies to nothing on this line")
 
-    def definition(self, line):
+    def definition(self, place):
         name = self.expect_name("the name of a type")
-        text = self.text_above(line)
+        text = self.text_above(place)
         forms = {"struct": self.struct, "enum": self.enum, "union": self.union, "unit": self.unit}
         make = forms[self.take().word] if self.is_next(*forms) else self.alias
         made = make(name)
@@ -352,7 +354,7 @@ class Parser:
         made = Alias(name.word, self.value_type(lower=True), name.place)
         if self.take_if("representation"):
             token = self.expect_name("a representation")
-            if token.word not in ("list", "map"):
+            if token.word != {ListOf: "list", MapOf: "map"}.get(type(made.of)):
                 raise SchemaError(token.place, f"the representation {token.word} of `{name.word}` is not supported")
         return made
 
@@ -427,6 +429,7 @@ class Parser:
         brace = self.take_if("{")
         while brace and not self.take_if("}"):
             token = self.expect_name("an option")
+            refuse_again(found, token)
             if token.word not in wanted:
                 raise SchemaError(token.place, f"`{token.word}` is not an option of {representation.word} here"
                                   + (': a field is renamed by `(rename "a")` after its type' if token.word == "fields" else ""))
@@ -440,17 +443,19 @@ class Parser:
         name = self.expect_name("the name of a field")
         optional = bool(self.take_if("optional"))
         kind = self.maybe_null()
-        key, implicit = name.word, None
+        said = {}
         if self.take_if("("):
             while not self.take_if(")"):
                 word = self.expect_name("`rename` or `implicit`")
+                refuse_again(said, word)
                 if word.word == "rename":
-                    key = self.expect_text("the name in the data").word
+                    said["rename"] = self.expect_text("the name in the data").word
                 elif word.word == "implicit":
-                    implicit = self.literal()
+                    said["implicit"] = self.literal()
                 else:
                     raise SchemaError(word.place, f"`{word.word}` is not supported: `rename` and `implicit` are")
-        return Field(name.word, kind, optional, key, name.place, self.text_above(name.place.line), implicit)
+        text = self.text_above(name.place)
+        return Field(name.word, kind, optional, said.get("rename", name.word), name.place, text, said.get("implicit"))
 
     def literal(self):
         token = self.take()
@@ -513,6 +518,11 @@ def case_name(held):
     if isinstance(held, Link):
         return "Link"
     raise SchemaError(held.place, "the members of a union have names: define this type by `type`")
+
+
+def refuse_again(said, token):
+    if token.word in said:
+        raise SchemaError(token.place, f"`{token.word}` is said twice here")
 
 
 def unwanted(token, what, form=","):

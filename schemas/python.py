@@ -2,6 +2,7 @@
 
 import json
 import keyword
+import sys
 
 from schemas.law import bounds, is_a, snake
 from schemas.language import WAYS, WIDTH, Language, named, named_blocks, power_of_two
@@ -249,7 +250,7 @@ class Python(Language):
     # The kinds of data, and the class of each.
     kinds = {"bool": "bool", "int": "int", "string": "str", "bytes": "bytes", "list": "list", "map": "dict", "link": "CID", "null": "None"}
     taken = frozenset("CID Callable DagCborError Enum Absent TypeAlias TypeVar ValueError False None True".split())
-    closed_modules = frozenset({*keyword.kwlist, "collections", "dagcbor", "dataclasses", "enum", "typing"})
+    closed_modules = frozenset({*keyword.kwlist, *sys.stdlib_module_names, "dagcbor"})  # Python has loaded some of its own already
     front, back = named_blocks(FRONT), named_blocks(BACK)
 
     scalars = {"String": "str", "Bytes": "bytes", "Bool": "bool", "Any": "Any"}
@@ -315,9 +316,14 @@ class Python(Language):
     def list_type(self, item):
         return f"list[{item}]"
 
+    def is_text(self, one):
+        """Returns true if a name of other types is in quotation marks: these may come after it, or one of them is such a name."""
+        held = self.schema.held(one) if isinstance(one, Alias) or is_a(one, "union_kinded") else []
+        return isinstance(one, (Alias, Union)) and (one.name in self.schema.recursive or any(map(self.is_text, held)))
+
     def alias(self, one, kinds):
-        """A name of other types, in quotation marks if these may come after it."""
-        mark = '"' if one.name in self.schema.recursive else ""
+        """A name of other types."""
+        mark = '"' if self.is_text(one) else ""
         line = f"{one.name}: TypeAlias = {mark}{' | '.join(kinds)}{mark}"
         if len(line) <= WIDTH:
             return [*comments(one.text, 0), line]

@@ -19,7 +19,7 @@ import tempfile
 import time
 from dataclasses import dataclass
 
-from schemas.crate import LANGUAGES, STANDS_ON, files_of, write
+from schemas.crate import LANGUAGES, STANDS_ON, CrateError, files_of, write
 from schemas.drawing import drawn
 from schemas.language import KNOWN
 from schemas.law import Schema
@@ -103,6 +103,13 @@ REFUSED = [
     ("type Foo int\ntype FOO int", "2:6: `FOO` and `Foo` (line 1) are the same name in lower case"),
     ("type Foo int\ntype FooView int", "2:6: `FooView` and `Foo`"),
     ("type A unit representation null", "none"),
+    ("# Nothing.\n", "2:1: `type` is expected here, and not the end of the file"),
+    ("type A [Int] representation map", "1:29: the representation map of `A` is not supported"),
+    ("type A int representation list", "1:27: the representation list of `A` is not supported"),
+    ("type A struct {\n  x Int (rename \"a\" rename \"b\")\n}", "2:21: `rename` is said twice here"),
+    ("type A struct {\n  x Int (implicit 1 implicit 2)\n}", "2:21: `implicit` is said twice here"),
+    ("type A union {\n  | Int \"i\"\n} representation envelope {\n  contentKey \"v\"\n  contentKey \"w\"\n}", "5:3: `contentKey` is said twice here"),
+    ("type A struct {\n  x B (implicit true)\n}\ntype B enum {\n  | C (\"1\")\n} representation int", "2:17: True is not a member of `B`: `x`"),
     ("advanced ROT13", "1:1: advanced data layouts are not supported"),
     ("type A struct {\n  x Int", "2:8: the name of a field is expected here, and not the end of the file"),
     ("type A \"a\"", "1:8: a type is expected here, and not the text \"a\""),
@@ -229,6 +236,7 @@ UNPROVED = [
     "type A struct {\n  kids [A]\n  next optional A\n}",
     'type A union {\n  | A "a"\n  | Int "i"\n} representation keyed',
     "type A [B]\ntype B {String:C}\ntype C = A",
+    "type A [nullable B]\ntype B = C\ntype C = A",
     RECURSIVE,
     IMPLIED_MEMBERS,
     INLINE.replace("C struct { # open", "C struct {"),
@@ -276,6 +284,8 @@ MADE_IN = [
     ("python", KEYS, "    vinyl: str | None = None"),
     ("python", "type A unit representation true", "    _unit(True, value, at)"),
     ("python", RECURSIVE, 'Node: TypeAlias = "Tree | Small"'),
+    ("python", RECURSIVE + "\ntype Trees [nullable Tree]", 'Trees: TypeAlias = "list[Tree | None]"'),
+    ("python", RECURSIVE + "\ntype B union {\n  | Trees list\n  | Int int\n} representation kinded\ntype Trees = Tree", 'B: TypeAlias = "Trees | int"'),
     ("python", RECURSIVE, "    return _list_of(_nullable(_write_node))(value, at)"),
     ("python", RECURSIVE, "    _bounded(at)"),
     ("python", RECURSIVE, "        case int() if not isinstance(value, bool):"),
@@ -412,14 +422,20 @@ def failures():
         yield None if found != "none" and set(others) == {"none"} else f"{text}\n    is refused by: {found}, {others}"
     for make in LANGUAGES.values():
         yield more_is_told(make)
+    count = made_in("python", "# About A.\ntype A struct { x Int y Int }").count("About A.")
+    yield None if count == 1 else f"the comment above a type of one line is made {count} times"
     yield from left_alone()
+    yield from line_ends()
+    yield from by_hand_left()
+    yield from refused_whole()
+    yield from told_in_words()
 
 
 def left_alone():
     """In a folder of another language each schema's file is by itself: those that are there stay, even if they are not UTF-8."""
     with tempfile.TemporaryDirectory() as name:
         folder = pathlib.Path(name)
-        (folder / "other.py").write_bytes(b"# by ./dagcbor-types \xff\n")
+        (folder / "other.py").write_bytes(b"# A, by ./dagcbor-types. \xff\n")
         for stem in ("a", "b"):
             schema = folder / f"{stem}.ipldsch"
             schema.write_text("type A struct {\n  x Int\n}\n", encoding="utf-8")
@@ -428,6 +444,80 @@ def left_alone():
         told = write(files_of([folder / "a.ipldsch"], folder, "python"), True, "python")
     wanted = ["a.py", "b.py", "other.py"]
     yield None if (stand, told) == (wanted, []) else f"{stand} stand, and {told} is told, in place of {wanted}"
+
+
+def line_ends():
+    """A file that differs in the ends of its lines differs."""
+    with tempfile.TemporaryDirectory() as name:
+        folder = pathlib.Path(name)
+        (folder / "a.ipldsch").write_text("type A struct {}\n", encoding="utf-8")
+        made = files_of([folder / "a.ipldsch"], folder, "python")
+        write(made, False, "python")
+        text = (folder / "a.py").read_bytes()
+        (folder / "a.py").write_bytes(text.replace(b"\n", b"\r\n"))
+        told = [len(write(made, check, "python")) for check in (True, False, True)]
+        yield None if told == [1, 1, 0] and (folder / "a.py").read_bytes() == text else f"{told} differ"
+
+
+def by_hand_left():
+    """A file of a crate that tells of the tool stays."""
+    with tempfile.TemporaryDirectory() as name:
+        folder = pathlib.Path(name)
+        (folder / "a.ipldsch").write_text("type A struct {}\n", encoding="utf-8")
+        by_hand = folder / "crates" / "music" / "src" / "tests.rt"
+        by_hand.parent.mkdir(parents=True)
+        by_hand.write_text("//! Tests of the types made by ./dagcbor-types.\n", encoding="utf-8")
+        write(files_of([folder / "a.ipldsch"], folder / "crates" / "music"), check=False)
+        yield None if by_hand.exists() else f"{by_hand} is removed"
+
+
+def refused_whole():
+    """If one file is refused, none is written and none is removed."""
+    with tempfile.TemporaryDirectory() as name:
+        folder = pathlib.Path(name)
+        schemas = [folder / f"{stem}.ipldsch" for stem in ("a", "b")]
+        for schema in schemas:
+            schema.write_text(f"type {schema.stem.upper()} struct {{\n  x Int\n}}\n", encoding="utf-8")
+        crate = folder / "crates" / "music"
+        write(files_of(schemas[:1], crate), check=False)
+        (crate / "src" / "lib.rt").write_text("//! By hand.\n", encoding="utf-8")
+        (folder / "b.py").write_text("# By hand.\n", encoding="utf-8")
+        stand = sorted(folder.rglob("*"))
+        by_hand = "was not made by this tool: move it away first"
+        for made, language, wanted in ((lambda: files_of(schemas[1:], crate), None, by_hand), (lambda: files_of(schemas, folder, "python"), "python", by_hand)):
+            found = crate_refusal(made, language)
+            yield None if found.endswith(wanted) and sorted(folder.rglob("*")) == stand else f"{found}, and {sorted(folder.rglob('*'))} stand, in place of {stand}"
+        (folder / "c").mkdir()
+        other = shutil.copy(schemas[0], folder / "c")
+        for language in (None, *LANGUAGES):
+            found = crate_refusal(lambda: files_of([*schemas, pathlib.Path(other)], crate, language), language)
+            yield None if found == f"{other}: {schemas[0]} makes the module a already" else found
+        same = [shutil.copy(schema, folder / f"{stem}.ipldsch") for schema, stem in zip(schemas, ("c1", "c_1"))]
+        found = crate_refusal(lambda: files_of(list(map(pathlib.Path, same)), crate), None)
+        yield None if found == "c1 and c_1 have one name in specs: C1" else found
+        own = shutil.copy(schemas[0], folder / "types.ipldsch")
+        found = crate_refusal(lambda: files_of([pathlib.Path(own)], folder, "python"), "python")
+        yield None if found == f"{own}: no module can be named types" else found
+
+
+def told_in_words():
+    """What the system refuses is told in one line too."""
+    with tempfile.TemporaryDirectory() as name:
+        folder = pathlib.Path(name)
+        (folder / "a.ipldsch").write_text("type A struct {}\n", encoding="utf-8")
+        (folder / "file").write_text("", encoding="utf-8")
+        (folder / "a.py").mkdir()
+        for into in (folder, folder / "file"):
+            status, log = ran(ROOT / "dagcbor-types", "--language", "python", folder / "a.ipldsch", into, folder=folder)
+            yield None if status == 1 and log.startswith("dagcbor-types: ") and log.count("\n") == 1 else f"{into}: {log}"
+
+
+def crate_refusal(made, language):
+    try:
+        write(made(), False, language)
+    except CrateError as error:
+        return str(error)
+    return "none"
 
 
 def judge(results):

@@ -227,9 +227,11 @@ function link(value: unknown, at: Place): CID {
 function integer(least: bigint, most: bigint): Conversion<bigint> {
   return (value, at) => {
     if (kindOf(value) !== 'int') throw other('int', value, at);
+    const isRounded = typeof value === 'number' && !Number.isSafeInteger(value);
     const number = BigInt(value as number | bigint);
-    if (number >= least && number <= most) return number;
-    throw refused('CastOverflow', at, `an int from ${least} to ${most} is wanted`);
+    if (number >= least && number <= most && !isRounded) return number;
+    const wanted = `an int from ${least} to ${most} is wanted`;
+    throw refused('CastOverflow', at, isRounded ? `${wanted}, beyond 2^53 as a bigint` : wanted);
   };
 }
 

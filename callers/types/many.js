@@ -28,6 +28,9 @@ for (const [made, value, wanted] of rows) {
   assert.deepStrictEqual(made.decode(block), value);
 }
 assert.throws(() => Row.encode({ ...numbered(keys), b6: deep('5') }), { name: 'DagCborError' });
+// What has been rounded already, as `encode` has it.
+const rounded = { name: 'DagCborError', kind: 'CastOverflow', place: [0] };
+assert.throws(() => Row.encode({ ...numbered(keys), a0: 2 ** 53, b6: deep(5) }), rounded);
 
 const name = (first, value) => ({ first, side: 'Left', last: { kind: 'String', value } });
 assert.strictEqual(Buffer.from(Name.encode(name('a', 'b'))).toString(), 'ha/l/id:b');

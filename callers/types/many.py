@@ -63,5 +63,6 @@ for write, value, place in [
 ]:
     assert refusal(write, value) == ("DepthOverflow", place)
 assert others.tree_from_block(others.tree_to_block(deep(128))) == deep(128)
+assert others.trees_to_block({"a": None, "b": [5]}) == b"\xa2\x61a\xf6\x61b\x81\x05"
 for block in (b"\x81" * 128 + b"\x80", b"\x81" * 100_000 + b"\x80"):
     assert refusal(others.tree_from_block, block)[0] == "DepthOverflow"

@@ -2,7 +2,6 @@
 
 import json
 import keyword
-import sys
 
 from schemas.law import bounds, is_a, snake
 from schemas.language import WAYS, WIDTH, Language, named, named_blocks, power_of_two
@@ -250,7 +249,7 @@ class Python(Language):
     # The kinds of data, and the class of each.
     kinds = {"bool": "bool", "int": "int", "string": "str", "bytes": "bytes", "list": "list", "map": "dict", "link": "CID", "null": "None"}
     taken = frozenset("CID Callable DagCborError Enum Absent TypeAlias TypeVar ValueError False None True".split())
-    closed_modules = frozenset({*keyword.kwlist, *sys.stdlib_module_names, "dagcbor"})  # Python has loaded some of its own already
+    closed_modules = frozenset({*keyword.kwlist, "collections", "dagcbor", "dataclasses", "enum", "typing"})
     front, back = named_blocks(FRONT), named_blocks(BACK)
 
     scalars = {"String": "str", "Bytes": "bytes", "Bool": "bool", "Any": "Any"}

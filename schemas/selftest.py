@@ -495,9 +495,6 @@ def refused_whole():
         same = [shutil.copy(schema, folder / f"{stem}.ipldsch") for schema, stem in zip(schemas, ("c1", "c_1"))]
         found = crate_refusal(lambda: files_of(list(map(pathlib.Path, same)), crate), None)
         yield None if found == "c1 and c_1 have one name in specs: C1" else found
-        own = shutil.copy(schemas[0], folder / "types.ipldsch")
-        found = crate_refusal(lambda: files_of([pathlib.Path(own)], folder, "python"), "python")
-        yield None if found == f"{own}: no module can be named types" else found
 
 
 def told_in_words():

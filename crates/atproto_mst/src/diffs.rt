@@ -118,7 +118,13 @@ fn add_if_changed(
     if before.value == after.value {
         return Ok(());
     }
-    add_change(alloc, &before.key, Some(before.value), Some(after.value), found)
+    add_change(
+        alloc,
+        &before.key,
+        Some(before.value),
+        Some(after.value),
+        found,
+    )
 }
 
 /// Appends the changes of entries that only the first list has.

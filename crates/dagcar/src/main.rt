@@ -12,8 +12,7 @@ use crate::sections::{filter_file, merge_files};
 use crate::split::split_file;
 use ipld_tree::Cid;
 use program_dagcar::{
-    Asked, OUT_OF_MEMORY, OneFault, USAGE, changes_of, run_changes, run_command, run_inspect,
-    split_words,
+    OUT_OF_MEMORY, OneFault, USAGE, changes_of, run_changes, run_command, run_inspect, split_words,
 };
 use program_dagcar_files::{
     IndexAsked, IndexWords, index_of, index_words_of, is_check, name_of, path_words_of, run_asked,
@@ -21,6 +20,7 @@ use program_dagcar_files::{
 };
 use program_events::event_of;
 use program_inspect::{Form, Index, Inspection, inspection_of};
+use program_parts::Asked;
 use program_records::commit_words_of;
 use program_sections::{filter_of, merge_of, split_of};
 use program_shared::{arguments, give_up};

@@ -1,13 +1,12 @@
 -- What a run of a command says, if the bytes of its input are known.
-use Rattle.std.proofs.Common.{◌≡◌, ◌≢◌, ◌⊎◌, inl, inr, ℕ, List, [], ◌∷◌, length, take, drop, ◌+◌, ◌*◌, Bool, true, false, arith, length-drop, map, ◌<◌, ◌≤◌, ap₂, refl, sym, ap, ◌∙◌, subst, get_or, Option, None, Some, MatchOption, codes, if◌then◌else◌, ◌==◌}
+use Rattle.std.proofs.Common.{◌≡◌, ◌≢◌, ◌⊎◌, inl, inr, ℕ, List, [], ◌∷◌, length, ◌+◌, ◌*◌, Bool, true, false, arith, map, ◌<◌, ◌≤◌, ap₂, refl, sym, ap, ◌∙◌, subst, get_or, Option, None, Some, MatchOption, codes, if◌then◌else◌, ◌==◌}
 use Rattle.std.specs.Prelude.{⊤}
-use Rattle.std.specs.List.{position_or_len}
 use Rattle.std.specs.Str.{bytes_eq}
-use Rattle.std.proofs.Math.Seq.{take-length}
 use Rattle.std.proofs.lemmas.Slice.Eq.{bytes_eq-Decides}
 use Rattle.ipld_tree.specs.Cid.{CidParts}
 use Rattle.text_cid.specs.Texts.{IsTextOf, TextsTellCids}
-use Rattle.program_dagcar.specs.Commands.{command_name, name_part, path_part, IsWordOf, IsRootOf, IsCommand, IsCommandOn, IsChanges}
+use Rattle.program_dagcar.specs.Commands.{command_name, IsWordOf, IsRootOf, IsCommand, IsCommandOn, IsChanges}
+use Rattle.program_parts.specs.Paths.{name_part}
 use Rattle.program_dagcar.specs.declared.command.Command.{Command}
 use Rattle.program_dagcar.specs.declared.command.Command.TheVariants as commands
 
@@ -213,18 +212,6 @@ is_word name word t e h = (bytes_eq-Decides word name).0 (sym e ∙ h)
 
 pub is_other : (name word : List ℕ) (t : Bool) → t ≡ bytes_eq word name → t ≡ false → word ≢ name
 is_other name word t e h is = let yes = (bytes_eq-Decides word name).1 is in absurd (cc (e, h, yes))
-
--- ---- a name and a path
-
-pub whole_name : (text : List ℕ) → position_or_len (λ b. b == 47) text ≡ length text → text ≡ name_part text
-whole_name text none = sym (ap (λ n. take n text) none ∙ take-length text)
-
-pub no_path : (text : List ℕ) → position_or_len (λ b. b == 47) text ≡ length text → [] ≡ path_part text
-no_path text none = sym (empty (drop (position_or_len (λ b. b == 47) text + 1) text) (omega (arith, none, length-drop (position_or_len (λ b. b == 47) text + 1) text)))
-  where
-    empty : (x : List ℕ) → length x ≡ 0 → x ≡ []
-    empty [] e = refl
-    empty (y ∷ ys) e = absurd (omega (arith, e))
 
 -- a list of two
 pub two_words : {X : Type 0} (f : X → List ℕ) (xs : List X) (a b : X) (word text : List ℕ) → 2 ≤ length xs → length xs < 3 → a ≡ get_or xs 0 a → b ≡ get_or xs 1 b → word ≡ f a → text ≡ f b → map f xs ≡ word ∷ text ∷ []

@@ -31,11 +31,11 @@ use Rattle.program_dagcar.specs.Summary.{IsVerdictCounted, IsSummary}
 use Rattle.program_dagcar.specs.Help.{help_text, version_text}
 use Rattle.ipld_paths.specs.Paths.{segments}
 use Rattle.program_dagcar.specs.Finding.{IsGot, IsTreeOfFile}
-use Rattle.program_dagcar.specs.Paths.{IsAnswerOfFile}
+use Rattle.program_parts.specs.Paths.{IsAnswerOfFile}
 use Rattle.program_dagcar.specs.Files.{IsListingOfFile, SaysFileOf}
-use Rattle.program_dagcar.specs.Commands.{path_part}
+use Rattle.program_parts.specs.Paths.{path_part}
 use Rattle.program_records.specs.Records.{IsRecords, IsRecord}
-use Rattle.program_dagcar.specs.declared.at.Asked.TheVariants as asks
+use Rattle.program_parts.specs.declared.at.Asked.TheVariants as asks
 use Rattle.program_dagcar.specs.declared.command.Command.{Command}
 use Rattle.program_dagcar.specs.declared.command.Command.TheVariants as commands
 use Rattle.program_shared.specs.declared.fault.ToolError.{ToolError}

@@ -1,9 +1,9 @@
 -- The words of the command line.
-use Rattle.std.specs.Prelude.{◌≡◌, ◌≢◌, ◌⊎◌, ℕ, List, [], ◌∷◌, codes, ◌==◌}
-use Rattle.std.specs.List.{before_first, after_first}
+use Rattle.std.specs.Prelude.{◌≡◌, ◌≢◌, ◌⊎◌, ℕ, List, [], ◌∷◌, codes}
 use Rattle.ipld_tree.specs.Cid.{CidParts}
 use Rattle.text_cid.specs.Texts.{IsTextOf, IsTextFault}
 use Rattle.text_cid.specs.declared.error.CidTextError.{CidTextError}
+use Rattle.program_parts.specs.Paths.{name_part}
 use Rattle.program_dagcar.specs.declared.command.Command.{Command}
 use Rattle.program_dagcar.specs.declared.command.Command.TheVariants as commands
 
@@ -28,13 +28,6 @@ command_name (commands.Ls name) = codes "ls"
 command_name (commands.Cat name) = codes "cat"
 command_name commands.Records = codes "records"
 command_name commands.Record = codes "record"
-
--- a name and a path: the text before the first slash, and after it
-abbrev pub name_part : List ℕ → List ℕ
-name_part text = before_first (λ b. b == 0x2f) text
-
-abbrev pub path_part : List ℕ → List ℕ
-path_part text = after_first (λ b. b == 0x2f) text
 
 -- the last of two or three words, or an empty text
 abbrev pub text_of : List (List ℕ) → List ℕ

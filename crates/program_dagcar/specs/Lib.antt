@@ -4,7 +4,6 @@ pub mod Speeches
 pub mod Commands
 pub mod Steps
 pub mod Finding
-pub mod Paths
 pub mod Files
 pub mod Summary
 pub mod Help

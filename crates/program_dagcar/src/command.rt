@@ -6,8 +6,9 @@ ghost use Rattle.program_dagcar.specs.Speeches.{beside, SaysBytes};
 ghost use Rattle.program_parts.specs.Lines.{no_cid_line, SaysToDevice, SaysBoth};
 ghost use Rattle.program_shared.specs.declared.fault.ToolError.{ToolError};
 ghost use Rattle.program_dagcar.specs.Commands.{IsCommand, IsCommandOn, IsMistyped};
-ghost use Rattle.program_dagcar.specs.Commands.{name_part, path_part, text_of};
-ghost use Rattle.program_dagcar.specs.Paths.{IsAnswerOfFile};
+ghost use Rattle.program_dagcar.specs.Commands.{text_of};
+ghost use Rattle.program_parts.specs.Paths.{name_part, path_part};
+ghost use Rattle.program_parts.specs.Paths.{IsAnswerOfFile};
 ghost use Rattle.program_dagcar.specs.Files.{IsListingOfFile, SaysFileOf};
 ghost use Rattle.ipld_paths.specs.Paths.{segments};
 ghost use Rattle.program_dagcar.specs.declared.command.Command.TheVariants.{Summary};
@@ -17,7 +18,6 @@ ghost use Rattle.text_cid.specs.declared.error.CidTextError.{CidTextError};
 ghost use Rattle.program_shared.specs.Writing.{WritesFront};
 
 use crate::answer::say_answer;
-use crate::at::{Asked, write_asked};
 use crate::block::{Judging, Naming, Showing};
 use crate::files::{write_entries, write_file};
 use crate::get::get_block;
@@ -31,7 +31,7 @@ use crate::walk::{Teller, say_file};
 use dagcbor_heads::IoRefReader;
 use files_car::CarCheck;
 use ipld_tree::Cid;
-use program_parts::{input_over, no_cid_line};
+use program_parts::{Asked, input_over, no_cid_line, split_path, write_asked};
 use program_records::{write_record, write_records};
 use program_shared::{ToolError, give_up, write_all};
 use std::alloc::Global;
@@ -120,17 +120,6 @@ fn command_on(word: &str, name: Cid) -> Option<Command>
         "get" => Some(Command::Get(name)),
         "tree" => Some(Command::Tree(name)),
         _ => None,
-    }
-}
-
-/// Splits a text at its first slash into a name and a path. The path is empty if there is no slash.
-pub fn split_path(text: &str) -> (&str, &str)
-    ensures name { result.0.now ≡ name_part text.now }
-    ensures path { result.1.now ≡ path_part text.now }
-{
-    match text.split_once('/') {
-        Some((name, path)) => (name, path),
-        None => (text, ""),
     }
 }
 

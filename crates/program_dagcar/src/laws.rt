@@ -1,8 +1,8 @@
 //! Laws about the program's answers, each the contract of a function that does nothing.
 
 ghost use Rattle.program_dagcar.specs.Commands.{ChangesAreNoCommand};
-ghost use Rattle.program_dagcar.specs.Paths.{ProofsDecide};
-ghost use Rattle.program_dagcar.specs.declared.at.Asked.TheVariants.{Data, Bytes};
+ghost use Rattle.program_parts.specs.Paths.{ProofsDecide};
+ghost use Rattle.program_parts.specs.declared.at.Asked.TheVariants.{Data, Bytes};
 
 /// The CAR file that `prove` writes decides its path. What `at` says of that file, it says of the
 /// whole file, even if the path leads to nothing.

@@ -3,7 +3,6 @@
 #![tactic(auto)]
 
 mod answer;
-mod at;
 mod block;
 mod changes;
 mod check;
@@ -23,10 +22,9 @@ mod verify;
 mod walk;
 
 pub use answer::{Answering, say_answer};
-pub use at::{Asked, say_asked};
 pub use changes::{changes_of, run_changes};
 pub use command::{
-    Command, OUT_OF_MEMORY, USAGE, command_of, run, run_command, split_path, split_words, status_of,
+    Command, OUT_OF_MEMORY, USAGE, command_of, run, run_command, split_words, status_of,
 };
 pub use device::OneFault;
 pub use get::got;

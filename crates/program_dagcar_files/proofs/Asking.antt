@@ -6,13 +6,13 @@ use Rattle.ipld_tree.specs.Cid.{CidParts}
 use Rattle.program_parts.specs.Lines.{SaysBoth}
 use Rattle.program_shared.specs.declared.fault.ToolError.{ToolError}
 use Rattle.program_shared.specs.declared.fault.ToolError.TheVariants.{Output}
-use Rattle.program_dagcar.specs.declared.at.Asked.{Asked}
+use Rattle.program_parts.specs.declared.at.Asked.{Asked}
 use Rattle.program_parts.proofs.Known.{if_some}
 use Rattle.program_parts.proofs.Saying.{both_of}
 use Rattle.program_index.specs.Layouts.{HasIndex}
 use Rattle.program_index.specs.Ways.{HoldsWay, LeavesIndex}
 use Rattle.ipld_links.specs.Reaching.{Stored}
-use Rattle.program_dagcar.specs.Paths.{IsAnswerOf, IsAnswerOfFile}
+use Rattle.program_parts.specs.Paths.{IsAnswerOf, IsAnswerOfFile}
 use Rattle.program_dagcar_files.specs.PathAnswers.{no_way_line, IsAnswerPast, IsAnswerNamed}
 use Rattle.program_dagcar_files.proofs.Getting.{both_known}
 

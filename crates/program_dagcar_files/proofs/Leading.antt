@@ -15,9 +15,9 @@ use Rattle.program_parts.specs.Lines.{line}
 use Rattle.program_parts.specs.Shown.{reserved_line}
 use Rattle.program_parts.specs.Ends.{IsNoItem, IsToldAt}
 use Rattle.program_parts.specs.Raw.{IsBlockAt}
-use Rattle.program_dagcar.specs.Paths.{IsSaidAt, IsAnswerOf, IsAnswerOfFile}
-use Rattle.program_dagcar.specs.declared.at.Asked.{Asked}
-use Rattle.program_dagcar.specs.declared.at.Asked.TheVariants as asks
+use Rattle.program_parts.specs.Paths.{IsSaidAt, IsAnswerOf, IsAnswerOfFile}
+use Rattle.program_parts.specs.declared.at.Asked.{Asked}
+use Rattle.program_parts.specs.declared.at.Asked.TheVariants as asks
 use Rattle.program_index.specs.Ways.{IsSettled, HoldsWay}
 use Rattle.program_index.proofs.Binding.{IsFailure, failure_binds}
 use Rattle.program_dagcar_files.specs.PathAnswers.{IndexLeadsThere, WaysBind}

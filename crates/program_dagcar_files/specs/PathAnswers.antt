@@ -4,9 +4,9 @@ use Rattle.ipld_tree.specs.Cid.{CidParts}
 use Rattle.ipld_links.specs.Collisions.{Collides}
 use Rattle.ipld_links.specs.Reaching.{Stored}
 use Rattle.program_parts.specs.Lines.{line}
-use Rattle.program_dagcar.specs.Paths.{IsAnswerOf, IsAnswerOfFile}
-use Rattle.program_dagcar.specs.declared.at.Asked.{Asked}
-use Rattle.program_dagcar.specs.declared.at.Asked.TheVariants as asks
+use Rattle.program_parts.specs.Paths.{IsAnswerOf, IsAnswerOfFile}
+use Rattle.program_parts.specs.declared.at.Asked.{Asked}
+use Rattle.program_parts.specs.declared.at.Asked.TheVariants as asks
 use Rattle.program_dagcar.specs.declared.command.Command.{Command}
 use Rattle.program_dagcar.specs.declared.command.Command.TheVariants as commands
 use Rattle.program_index.specs.Layouts.{HasIndex}

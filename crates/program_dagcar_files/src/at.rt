@@ -3,14 +3,15 @@
 ghost use Rattle.std.specs.Prelude.{◌≡◌, IfSome};
 ghost use Rattle.ipld_paths.specs.Paths.{segments};
 ghost use Rattle.program_parts.specs.Lines.{SaysBoth};
-ghost use Rattle.program_dagcar.specs.Commands.{path_part};
-ghost use Rattle.program_dagcar.specs.Paths.{IsAnswerOfFile};
+ghost use Rattle.program_parts.specs.Paths.{path_part};
+ghost use Rattle.program_parts.specs.Paths.{IsAnswerOfFile};
 ghost use Rattle.program_dagcar_files.specs.PathAnswers.{asking, IsAnswerPast, IsAnswerNamed};
 
 use files_index::{ReadAt, buffered_from};
 use ipld_tree::Cid;
-use program_dagcar::{Asked, Command, run, say_asked, split_path};
+use program_dagcar::{Command, run};
 use program_index::{Gathered, gather_way};
+use program_parts::{Asked, say_asked, split_path};
 use program_shared::{ToolError, write_all};
 use std::alloc::Global;
 use std::io::Write;

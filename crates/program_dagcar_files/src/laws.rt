@@ -1,6 +1,6 @@
 //! Laws about the words, and about indexes, each the contract of a function that does nothing.
 
-ghost use Rattle.program_dagcar.specs.declared.at.Asked.TheVariants.{Data, Bytes};
+ghost use Rattle.program_parts.specs.declared.at.Asked.TheVariants.{Data, Bytes};
 ghost use Rattle.program_dagcar_files.specs.Gets.{IndexGivesTheBlock};
 ghost use Rattle.program_dagcar_files.specs.IndexWords.{IndexWordsAreNoCommand};
 ghost use Rattle.program_dagcar_files.specs.PathAnswers.{IndexLeadsThere, WaysBind};

@@ -18,9 +18,9 @@ use Rattle.store_on_disk.proofs.Trees.{got_stored}
 use Rattle.store_on_disk.proofs.Walking.{same_then, damaged_same, fails_same}
 use Rattle.store_on_disk.specs.declared.error.StoreRefusal.TheVariants as refusal
 use Rattle.program_dagstore.specs.Blocks.{GetFails}
-use Rattle.program_dagcar.specs.Paths.{IsAnswerOf}
-use Rattle.program_dagcar.specs.declared.at.Asked.{Asked}
-use Rattle.program_dagcar.proofs.Proving.{data_here, bytes_here}
+use Rattle.program_parts.specs.Paths.{IsAnswerOf}
+use Rattle.program_parts.specs.declared.at.Asked.{Asked}
+use Rattle.program_parts.proofs.Proving.{data_here, bytes_here}
 use Rattle.program_dagstore.specs.Ways.{IsPartOf, HoldsNameToo, HoldsWay, asked_of, IsAnswerIn, ComesTo, WayFails}
 use Rattle.program_dagstore.specs.declared.fault.Fault.{Fault}
 use Rattle.program_dagstore.specs.declared.fault.Fault.TheVariants as fault

@@ -5,7 +5,7 @@ use Rattle.std.specs.Str.Parse.{IsNumeral, digits_value}
 use Rattle.ipld_tree.specs.Cid.{CidParts}
 use Rattle.text_cid.specs.Texts.{IsTextOf, IsTextFault}
 use Rattle.text_cid.specs.declared.error.CidTextError.{CidTextError}
-use Rattle.program_dagcar.specs.Commands.{name_part, path_part}
+use Rattle.program_parts.specs.Paths.{name_part, path_part}
 use Rattle.program_dagstore.specs.declared.command.Command.{Command}
 use Rattle.program_dagstore.specs.declared.command.Command.TheVariants as commands
 use Rattle.program_dagstore.specs.declared.command.Words.{Words}

@@ -6,9 +6,9 @@ use Rattle.ipld_tree.specs.Cid.{CidParts}
 use Rattle.ipld_links.specs.Reaching.{Stored}
 use Rattle.ipld_paths.specs.Resolving.{LeadsOn, AreOnTheWay}
 use Rattle.ipld_paths.specs.Laws.{AgreeOn}
-use Rattle.program_dagcar.specs.Paths.{IsAnswerOf}
-use Rattle.program_dagcar.specs.declared.at.Asked.{Asked}
-use Rattle.program_dagcar.specs.declared.at.Asked.TheVariants as asks
+use Rattle.program_parts.specs.Paths.{IsAnswerOf}
+use Rattle.program_parts.specs.declared.at.Asked.{Asked}
+use Rattle.program_parts.specs.declared.at.Asked.TheVariants as asks
 use Rattle.store_on_disk.specs.Stored.{StaysSame, FindsSo, IsDamaged, FailsByStore}
 use Rattle.store_on_disk.specs.Trees.{OfStored}
 use Rattle.store_on_disk.specs.declared.error.StoreRefusal.TheVariants as refusal

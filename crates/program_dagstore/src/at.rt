@@ -10,7 +10,7 @@ ghost use Rattle.program_dagstore.specs.Ways.{asked_of, IsAnswerIn, WayFails};
 use crate::fault::Fault;
 use crate::way::gather_way;
 use ipld_tree::Cid;
-use program_dagcar::{Asked, say_asked};
+use program_parts::{Asked, say_asked};
 use std::alloc::Global;
 use std::io::Write;
 use store_on_disk::{BlockStore, Store};

@@ -5,14 +5,14 @@ ghost use Rattle.std.specs.Prelude.{IfOk, IfErr, MatchBool, MatchOption, MatchRe
 ghost use Rattle.std.specs.Str.Parse.{IsNumeral, digits_value};
 ghost use Rattle.ipld_tree.specs.Cid.{CidParts};
 ghost use Rattle.text_cid.specs.Texts.{IsTextOf, IsTextFault};
-ghost use Rattle.program_dagcar.specs.Commands.{name_part, path_part};
+ghost use Rattle.program_parts.specs.Paths.{name_part, path_part};
 ghost use Rattle.program_dagstore.specs.Commands.{NamesCodec, AreTextsOf, IsFirstFault, WantsNames};
 ghost use Rattle.program_dagstore.specs.Commands.{NamesCommand, AreWordsOf, IsAskedBy, AreWords};
 ghost use Rattle.program_dagstore.specs.declared.command.Command.{Command};
 
 use ipld_links::DAG_CBOR;
 use ipld_tree::Cid;
-use program_dagcar::split_path;
+use program_parts::split_path;
 use std::alloc::{AllocError, Global};
 use text_cid::{CidTextError, cid_from_text, laws};
 

@@ -5,9 +5,11 @@ use Rattle.std.proofs.KnownBytes.{Appends-nil}
 use Rattle.ipld_tree.specs.Cid.{CidParts}
 use Rattle.ipld_tree.specs.Tree.{Tree}
 use Rattle.dagcbor_decode.specs.Blocks.{IsBlock}
+use Rattle.dagcbor_decode.proofs.Laws.{refused_no_block, refused_for}
 use Rattle.ipld_links.specs.Reaching.{Stored}
 use Rattle.ipld_paths.specs.Resolving.{Resolves}
 use Rattle.ipld_paths.specs.Laws.{Leads, GivesItem}
+use Rattle.ipld_paths.proofs.Binding.{block_unique}
 use Rattle.ipld_paths.specs.declared.resolution.End.{End}
 use Rattle.ipld_paths.specs.declared.resolution.End.TheVariants as ends
 use Rattle.ipld_paths.specs.declared.resolution.Resolved.{Resolved}
@@ -16,6 +18,8 @@ use Rattle.program_shared.specs.declared.fault.ToolError.{ToolError}
 use Rattle.program_shared.specs.declared.fault.ToolError.TheVariants.{Output}
 use Rattle.program_parts.specs.Ends.{end_line, IsNoItem, IsToldAt}
 use Rattle.program_parts.specs.Raw.{IsRawOf}
+use Rattle.program_parts.specs.Shown.{IsShown}
+use Rattle.program_parts.specs.Paths.{IsAtOf}
 use Rattle.program_parts.specs.Proof.{IsDecided, IsProofFile, IsProofOf}
 
 -- ---- an item, or none
@@ -23,6 +27,14 @@ use Rattle.program_parts.specs.Proof.{IsDecided, IsProofFile, IsProofOf}
 pub item_led : {A : Type 0} (bytes_of : A → List ℕ) (stored : Stored) (root : CidParts) (path : List (List ℕ)) (end : End) (a : A) → GivesItem bytes_of stored root path end (Some a) → (n : ℕ) × (u : Tree) × Leads n stored root path (Some u) × IsBlock (bytes_of a) u
 item_led bytes_of stored root path (ends.Item kind place end) a h = h
 item_led bytes_of stored root path _ a h = absurd h
+
+pub shown_at : {A : Type 0} (bytes_of : A → List ℕ) (stored : Stored) (root : CidParts) (path : List (List ℕ)) (end : End) (a : A) → GivesItem bytes_of stored root path end (Some a) → (well : Bool) (said told : List ℕ) → IsShown (bytes_of a) well said told → IsAtOf stored root path well said told
+shown_at bytes_of stored root path end a h well said told (inl k) =
+    let l = item_led bytes_of stored root path end a h in
+    inl (l.0, k.0, subst (λ u. Leads l.0 stored root path (Some u)) (block_unique (bytes_of a) l.1 k.0 l.3 k.1) l.2, k.2, k.3, k.4)
+shown_at bytes_of stored root path end a h well said told (inr k) =
+    let l = item_led bytes_of stored root path end a h in
+    absurd (refused_no_block (bytes_of a) k.0 l.1 (refused_for (bytes_of a) k.0 k.1 k.2) l.3)
 
 none_led : {A : Type 0} (bytes_of : A → List ℕ) (stored : Stored) (root : CidParts) (path : List (List ℕ)) (end : End) → GivesItem {A = A} bytes_of stored root path end None → IsNoItem end
 none_led bytes_of stored root path (ends.Item kind place end) h = h

@@ -7,3 +7,5 @@ pub mod NamesShown
 pub mod Known
 pub mod Taking
 pub mod Keeping
+pub mod Proving
+pub mod NameAndPath

@@ -13,3 +13,4 @@ pub mod FileNames
 pub mod Entries
 pub mod Taking
 pub mod Holding
+pub mod Paths

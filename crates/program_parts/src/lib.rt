@@ -2,6 +2,7 @@
 //! the blocks of a CAR file, taken section by section or held in memory.
 #![tactic(auto)]
 
+mod at;
 mod codec;
 mod content;
 mod data;
@@ -20,6 +21,7 @@ mod stop;
 mod take;
 mod verdict;
 
+pub use at::{Asked, say_asked, split_path, write_asked};
 pub use codec::codec_name;
 pub use content::{MOST_DEPTH, begin_content, say_block, say_content};
 pub use data::{Answer, fault_place_line, no_block_answer, say_shown, shown};

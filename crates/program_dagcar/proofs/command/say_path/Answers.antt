@@ -2,7 +2,7 @@ use Rattle.std.proofs.Common.{subst}
 use Rattle.ipld_paths.specs.Paths.{segments}
 use Rattle.program_parts.specs.Lines.{SaysBoth}
 use Rattle.program_parts.proofs.Known.{if_some}
-use Rattle.program_dagcar.specs.Paths.{IsAnswerOfFile}
+use Rattle.program_parts.specs.Paths.{IsAnswerOfFile}
 use Rattle.program_dagcar.proofs.command.say_path.Goals as goal
 
 pub returns : goal.returns

@@ -1,4 +1,4 @@
-use Rattle.program_dagcar.proofs.Proving.{data_decided, bytes_decided}
+use Rattle.program_parts.proofs.Proving.{data_decided, bytes_decided}
 use Rattle.program_dagcar.proofs.laws.proofs_decide.Goals as goal
 
 pub returns-clause-data : goal.returns-clause-data

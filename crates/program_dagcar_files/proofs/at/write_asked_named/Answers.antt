@@ -2,7 +2,7 @@ use Rattle.std.proofs.Common.{IfSome, subst}
 use Rattle.ipld_paths.specs.Paths.{segments}
 use Rattle.ipld_links.specs.Reaching.{stored_in}
 use Rattle.program_parts.specs.Lines.{SaysBoth}
-use Rattle.program_dagcar.specs.Commands.{path_part}
+use Rattle.program_parts.specs.Paths.{path_part}
 use Rattle.program_index.specs.Layouts.{HasIndex}
 use Rattle.program_index.specs.Ways.{LeavesIndex}
 use Rattle.program_dagcar_files.specs.PathAnswers.{IsAnswerNamed}

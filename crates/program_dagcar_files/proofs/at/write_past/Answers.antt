@@ -1,6 +1,6 @@
 use Rattle.std.proofs.Common.{rules, sym, ◌∙◌}
 use Rattle.ipld_paths.specs.Paths.{segments}
-use Rattle.program_dagcar.specs.Commands.{path_part}
+use Rattle.program_parts.specs.Paths.{path_part}
 use Rattle.program_parts.proofs.Known.{if_some}
 use Rattle.program_dagcar_files.proofs.Asking.{past_told, past_not, known_broken, known_half}
 use Rattle.program_dagcar_files.proofs.at.write_past.Goals as goal

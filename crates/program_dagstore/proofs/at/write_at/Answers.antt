@@ -2,7 +2,7 @@ use Rattle.std.proofs.Common.{Ok, Err}
 use Rattle.std.proofs.lemmas.Result.{err_from_is_err_and}
 use Rattle.ipld_paths.specs.Paths.{segments}
 use Rattle.ipld_links.specs.Reaching.{stored_in}
-use Rattle.program_dagcar.specs.Paths.{IsAnswerOf}
+use Rattle.program_parts.specs.Paths.{IsAnswerOf}
 use Rattle.program_dagstore.specs.Ways.{IsAnswerIn}
 use Rattle.program_dagstore.proofs.Gathering.{answered}
 use Rattle.program_parts.proofs.Saying.{both_of}

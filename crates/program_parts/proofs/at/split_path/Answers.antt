@@ -1,7 +1,7 @@
 use Rattle.std.proofs.Common.{Some, None, arith}
 use Rattle.std.proofs.lemmas.Str.Pattern.{split_once_first}
-use Rattle.program_dagcar.proofs.Running.{whole_name, no_path}
-use Rattle.program_dagcar.proofs.command.split_path.Goals as goal
+use Rattle.program_parts.proofs.NameAndPath.{whole_name, no_path}
+use Rattle.program_parts.proofs.at.split_path.Goals as goal
 
 pub returns-in-Some-clause-name : goal.returns-in-Some-clause-name
 returns-in-Some-clause-name c = (split_once_first 47 c.args.text.now (Some (c.in-Some.name, c.in-Some.path)) c.in-Some.ensures.cases (omega arith)).1

@@ -1,5 +1,6 @@
--- What a path leads to in a CAR file.
-use Rattle.std.specs.Prelude.{◌≡◌, ◌⊎◌, ℕ, List, [], Bool, true, false, Some, ⊤, if◌then◌else◌}
+-- A name and a path, and what the path leads to in a CAR file.
+use Rattle.std.specs.Prelude.{◌≡◌, ◌⊎◌, ℕ, List, [], Bool, true, false, Some, ⊤, if◌then◌else◌, ◌==◌}
+use Rattle.std.specs.List.{before_first, after_first}
 use Rattle.ipld_tree.specs.Cid.{CidParts}
 use Rattle.ipld_tree.specs.Tree.{Tree}
 use Rattle.text_dag_json.specs.DagJson.{dag_json, has_reserved_key}
@@ -14,8 +15,15 @@ use Rattle.program_parts.specs.Proof.{IsProofOf}
 use Rattle.program_parts.specs.Shown.{reserved_line}
 use Rattle.program_parts.specs.Holding.{Stores, TellsFault}
 use Rattle.program_parts.specs.declared.holding.Kept.TheVariants as which
-use Rattle.program_dagcar.specs.declared.at.Asked.{Asked}
-use Rattle.program_dagcar.specs.declared.at.Asked.TheVariants as asks
+use Rattle.program_parts.specs.declared.at.Asked.{Asked}
+use Rattle.program_parts.specs.declared.at.Asked.TheVariants as asks
+
+-- a name and a path: the text before the first slash, and after it
+abbrev pub name_part : List ℕ → List ℕ
+name_part text = before_first (λ b. b == 0x2f) text
+
+abbrev pub path_part : List ℕ → List ℕ
+path_part text = after_first (λ b. b == 0x2f) text
 
 -- The path leads from the root to a tree, which is written as a line of DAG-JSON, with a warning if
 -- a map in it has the key `/`.

@@ -16,9 +16,9 @@ use Rattle.program_parts.specs.Raw.{IsRawOf}
 use Rattle.program_parts.specs.Proof.{IsProofFile, IsProofOf}
 use Rattle.program_parts.specs.Holding.{Stores}
 use Rattle.program_parts.specs.declared.holding.Kept.TheVariants as which
-use Rattle.program_dagcar.specs.Paths.{IsAtOf, IsAnswerOf, IsAnswerOfFile, ProofsDecide}
-use Rattle.program_dagcar.specs.declared.at.Asked.{Asked}
-use Rattle.program_dagcar.specs.declared.at.Asked.TheVariants as asks
+use Rattle.program_parts.specs.Paths.{IsAtOf, IsAnswerOf, IsAnswerOfFile, ProofsDecide}
+use Rattle.program_parts.specs.declared.at.Asked.{Asked}
+use Rattle.program_parts.specs.declared.at.Asked.TheVariants as asks
 
 -- ---- the sections of a proof
 

@@ -2,8 +2,8 @@ use Rattle.std.proofs.Common.{sym, subst}
 use Rattle.ipld_paths.specs.Paths.{segments}
 use Rattle.ipld_links.specs.Reaching.{stored_in}
 use Rattle.program_parts.specs.Lines.{SaysBoth}
-use Rattle.program_dagcar.specs.Paths.{IsAnswerOf}
-use Rattle.program_dagcar.proofs.at.say_asked.Goals as goal
+use Rattle.program_parts.specs.Paths.{IsAnswerOf}
+use Rattle.program_parts.proofs.at.say_asked.Goals as goal
 
 pub returns-in-Data : goal.returns-in-Data
 returns-in-Data g c = subst (λ a. SaysBoth (IsAnswerOf a c.args.root.now (segments c.args.path.now) (stored_in c.args.blocks.now)) (g.W.Write.contents c.args.output.now) (g.V.Write.contents c.args.errors.now) c.say_at.result (g.W.Write.contents c.say_at.new.output) (g.V.Write.contents c.say_at.new.errors)) (sym c.in-Data.is) c.say_at.ensures

@@ -3,11 +3,11 @@ use Rattle.std.specs.Bool.{⊤}
 use Rattle.dagcbor_items.specs.Walks.{forms}
 use Rattle.ipld_links.specs.Reaching.{stored_in}
 use Rattle.program_parts.specs.Holding.{TellsFault}
-use Rattle.program_dagcar.specs.Paths.{IsAnswerOf, IsAnswerOfFile}
+use Rattle.program_parts.specs.Paths.{IsAnswerOf, IsAnswerOfFile}
 use Rattle.ipld_paths.specs.Paths.{segments}
 use Rattle.program_parts.proofs.Known.{if_some}
 use Rattle.program_parts.proofs.Saying.{both_said, both_of}
-use Rattle.program_dagcar.proofs.at.write_asked.Goals as goal
+use Rattle.program_parts.proofs.at.write_asked.Goals as goal
 
 pub returns-in-Ok-Ok : goal.returns-in-Ok-Ok
 returns-in-Ok-Ok g c = if_some (g.R.Read.remaining c.args.input.now) (rw c.in-Ok-Ok.field-0-is at c.in-Ok-Ok.ensures) (λ b k.

@@ -1,14 +1,19 @@
-//! `at` and `prove`: what a path leads to in a CAR file.
+//! `at` and `prove`: a name and a path, and what the path leads to in a CAR file.
 
-ghost use Rattle.std.specs.Prelude.{IfSome};
+ghost use Rattle.std.specs.Prelude.{◌≡◌, IfSome};
 ghost use Rattle.ipld_paths.specs.Paths.{segments};
 ghost use Rattle.ipld_links.specs.Reaching.{stored_in};
 ghost use Rattle.program_parts.specs.Lines.{SaysBoth};
-ghost use Rattle.program_dagcar.specs.Paths.{IsAtOf, IsAnswerOf, IsAnswerOfFile};
+ghost use Rattle.program_parts.specs.Paths.{name_part, path_part, IsAtOf, IsAnswerOf, IsAnswerOfFile};
 
+use crate::data::say_shown;
+use crate::end::say_end;
+use crate::holding::{Kept, held_of};
+use crate::line::say_both;
+use crate::proof::say_proof;
+use crate::raw::say_raw;
 use ipld_paths::{item_bytes, resolve};
 use ipld_tree::Cid;
-use program_parts::{Kept, held_of, say_both, say_end, say_proof, say_raw, say_shown};
 use program_shared::ToolError;
 use std::alloc::Global;
 use std::collections::BTreeMap;
@@ -23,6 +28,17 @@ pub enum Asked {
     Bytes,
     /// The CAR file that proves what the path leads to.
     Proof,
+}
+
+/// Splits a text at its first slash into a name and a path. The path is empty if there is no slash.
+pub fn split_path(text: &str) -> (&str, &str)
+    ensures name { result.0.now ≡ name_part text.now }
+    ensures path { result.1.now ≡ path_part text.now }
+{
+    match text.split_once('/') {
+        Some((name, path)) => (name, path),
+        None => (text, ""),
+    }
 }
 
 /// Writes what the path leads to from the root, or an error line that says why it leads to nothing.

@@ -201,6 +201,22 @@ def test_a_file_that_has_no_bytes_yet():
         assert found == frames
 
 
+def test_a_frame_comes_once_it_is_there():
+    """Whoever sends may wait for an answer before sending more, or say nothing for hours."""
+    frames = [GOOD[0][1], GOOD[5][1], GOOD[1][1]]
+    source, sink = os.pipe()
+    with open(source, "rb") as file:
+        events = read_events(file)
+        for frame in frames:
+            for half in (frame[:9], frame[9:]):
+                os.write(sink, half)
+            assert next(events).frame == frame
+        os.set_blocking(source, False)
+        with pytest.raises(BlockingIOError):
+            next(events)
+    os.close(sink)
+
+
 @pytest.mark.parametrize("byte", range(0, len(GOOD[5][1]), 7))
 def test_a_byte_that_is_another(byte):
     """It is refused, or nothing that is verified is another."""

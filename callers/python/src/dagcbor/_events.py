@@ -246,14 +246,14 @@ def _events_of(held: bytes, more: Callable[[int], bytes]) -> Iterator[Event]:
 
 
 def _read(file: Readable, most: int) -> bytes:
-    """Reads a number of bytes of the file, or as many as it has."""
-    pieces, left = [], most
-    while left and (piece := file.read(left)):
-        pieces.append(piece)
-        left -= len(piece)
-    if not pieces and piece is None:
+    """Reads bytes that the file has at hand, at most this many; waits for one, and returns none at the end."""
+    at_hand = getattr(file, "read1", None)
+    piece = at_hand(most) if at_hand else file.read(most)
+    if at_hand and not piece:
+        piece = file.read(1)  # read1 returns the same at the end as where there are no bytes yet
+    if piece is None:
         raise BlockingIOError("read() has no bytes yet")
-    return b"".join(pieces)
+    return piece
 
 
 def _event_of(code: int, header: bytes, body: bytes) -> Event:

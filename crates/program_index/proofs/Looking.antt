@@ -1,12 +1,11 @@
 -- A block that is looked up.
 use Rattle.std.proofs.Common.{◌≡◌, ℕ, List, [], Bool, true, false, cond, refl, sym, ap, ◌∙◌, subst, Option, None, Some, IfSome, is_some, option_map, Vec, BTreeMap, Global}
 use Rattle.std.specs.Map.{lookup}
-use Rattle.std.specs.BTreeMap.{is_at}
+use Rattle.std.specs.BTreeMap.{is_at, get}
 use Rattle.ipld_tree.specs.Cid.{CidParts, cid_cmp}
 use Rattle.ipld_links.specs.Verdicts.{IsVerified}
 use Rattle.ipld_links.specs.Reaching.{Stored, stored_in}
 use Rattle.ipld_links.proofs.Members.{at_same, same_at}
-use Rattle.program_parts.specs.Holding.{PutsBack}
 use Rattle.program_index.specs.Layouts.{HasIndex}
 use Rattle.program_index.specs.Ways.{AreLedTo, HoldsMore, LooksUp}
 
@@ -35,7 +34,7 @@ held_before bytes_of (Some a) known name stored is there h = record {
 }
 
 -- it is put there
-module _ (known : Option (List ℕ)) (name : CidParts) (v : Vec ℕ Global) (old new : BTreeMap CidParts (Vec ℕ Global)) (put : PutsBack name (Some v) old new) where
+module _ (known : Option (List ℕ)) (name : CidParts) (v : Vec ℕ Global) (old new : BTreeMap CidParts (Vec ℕ Global)) (put : (q : CidParts) → get cid_cmp new q ≡ cond (is_at (cid_cmp name) q) (Some v) (get cid_cmp old q)) where
   map_cond : (t : Bool) (o : Option (Vec ℕ Global)) → option_map (λ (w : Vec ℕ Global). w.items) (cond t (Some v) o) ≡ cond t (Some v.items) (option_map (λ (w : Vec ℕ Global). w.items) o)
   map_cond true o = refl
   map_cond false o = refl

@@ -193,7 +193,7 @@ def test_a_file_that_has_no_bytes_yet():
     """It is not at its end, and is not taken to be."""
     one, other = GOOD[0][1], GOOD[1][1]
     for pieces, frames in [
-        ([None], []), ([one, None, None], [one]), ([one, other[:9], None, None], [one]), ([one, None, other, None, None], [one, other]),
+        ([None], []), ([one, None, None], [one]), ([one, other[:9], None, None], [one]), ([one, other, None], [one, other]),
     ]:
         found = []
         with pytest.raises(BlockingIOError):

@@ -248,7 +248,7 @@ def _events_of(held: bytes, more: Callable[[int], bytes]) -> Iterator[Event]:
 def _read(file: Readable, most: int) -> bytes:
     """Reads bytes that the file has at hand, at most this many; waits for one, and returns none at the end."""
     at_hand = getattr(file, "read1", None)
-    piece = at_hand(most) if at_hand else file.read(most)
+    piece: bytes | None = at_hand(most) if at_hand else file.read(most)
     if at_hand and not piece:
         piece = file.read(1)  # read1 returns the same at the end as where there are no bytes yet
     if piece is None:

@@ -185,6 +185,7 @@ def read_events(source: Buffer | Readable, /) -> Iterator[Event]:
 
     The first that is not a frame raises an EventError, and ends the iteration. For a file, the frame
     that is read and a piece of the file are in memory; if no frame ends in the rest, all of the rest.
+    A file that does not block, and has no bytes yet, raises a BlockingIOError, which ends it too.
     """
     if hasattr(source, "read"):
         file = cast("Readable", source)

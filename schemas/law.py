@@ -40,8 +40,9 @@ OF_DATA_MODEL = {*DATA_MODEL, "Null", "Unit"}
 TAKEN = OF_DATA_MODEL | set(
     """Box Clone Copy Debug Default Drop Eq Err From Hash Into Iterator Model Never None Ok Option Ord PartialEq PartialOrd Result Self
     Send Some Sync Vec BTreeMap Cid Ipld Global Closed DecodeError Deserialize DeserializeOwned Deserializer EnumAccessor Field FieldGroup Fields
-    Accessor ByKind Enveloped WrittenGroup InGroups NoKind Numbered Omissible OmissibleItem Optional Read ReadResult Required Serialize Serializer Shown Variants Write WriteResult
-    EnumShape Lib Made Numbered OneGroup OptionalPart Part Parts PartRow Prim R Shape Syntax TheOwn TheVariants Tree Type W""".split()
+    Accessor ByKind Enveloped FromParts InGroups NoKind Numbered Omissible OmissibleItem Optional Read ReadResult Required Serialize
+    Serializer Shown Variants Write WriteResult WrittenGroup
+    EnumShape Lib Numbered OneGroup OptionalPart Part Parts PartRow Prim R Shape Syntax TheOwn TheVariants Tree Type W""".split()
 )
 TAKEN_VARIANTS = {"Below", "Self", "Denot"}
 RESERVED = set(

@@ -120,7 +120,7 @@ class WideMembers(Members):
         fields = [replace(one.field, name=one.local, optional=True) for one in self.row]
         whole, self.groups = Struct(union.name, fields, "map", self.open, union.place), []
         for some in packed(self.parts, MOST_IN_READ):
-            group = of_fields(module, whole, len(self.groups) + 1, fields[: len(some)], "pub ")  # as everything in an impl of `Made`
+            group = of_fields(module, whole, len(self.groups) + 1, fields[: len(some)], "pub ")  # as everything in an impl of `FromParts`
             self.groups.append((group, some))
             fields = fields[len(some) :]
             for one in some:

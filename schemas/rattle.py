@@ -51,7 +51,7 @@ WORDS = {
     "Rattle.types_schema.specs.Kinds": "by_kind no_kind",
     "Rattle.types_schema.specs.declared.by_kind.ByKind": "ByKind",
     "Rattle.types_schema.specs.Envelopes": "envelope_of",
-    "Rattle.types_schema.specs.Implied": "implied unless_implied",
+    "Rattle.types_schema.specs.Implicit": "or_implicit unless_implicit",
     "Rattle.types_schema.specs.Pairs": "text_and_value named",
     "Rattle.types_schema.specs.Parts": "optional_part",
     "Rattle.types_schema.specs.Members": "there absent",
@@ -60,8 +60,8 @@ WORDS = {
 
 # Where each word of the code comes from.
 HOMES = {
-    "types_schema": """ByKind Enveloped InGroups Made NoKind Numbered OneGroup OptionalPart Part WrittenGroup of_name read_enveloped
-        read_made read_numbered unless_meant write_parts""",
+    "types_schema": """ByKind Enveloped FromParts InGroups NoKind Numbered OneGroup OptionalPart Part WrittenGroup of_name omit_implicit
+        read_enveloped read_from_parts read_numbered write_parts""",
     "serde_ipld_dagcbor": """Accessor Bytes Cid Closed DecodeError Deserialize DeserializeOwned Deserializer EnumAccessor Field FieldGroup
         Ipld Omissible OmissibleItem Optional Read ReadResult Required Serialize Serializer Shown Variants Write WriteResult read_enum
         read_struct read_tuple write_struct""",
@@ -301,7 +301,7 @@ class Module:
             if struct.representation == "listpairs":
                 made.append(f'    named (codes "{field.key}") {path} (λ {local}.')
             elif field.implicit is not None:
-                made.append(f"    implied {equal_to(kind, field.implicit.value)} {path} (λ {local}.")
+                made.append(f"    or_implicit {equal_to(kind, field.implicit.value)} {path} (λ {local}.")
             else:
                 local = path
             values.append(local)
@@ -511,14 +511,14 @@ class Module:
     def written_value(field, kind):
         """In specs, what is written for a field of `v`."""
         value = f"v.{field_name(field.name)}"
-        return value if field.implicit is None else f"(unless_implied {equal_to(kind, field.implicit.value)} {value})"
+        return value if field.implicit is None else f"(unless_implicit {equal_to(kind, field.implicit.value)} {value})"
 
     def map_written(self, kinds, by_key, groups):
         """The lines that write a struct that is a map: in groups, if it has any."""
         made = []
         for field, kind in kinds:
             if field.implicit is not None:
-                made += self.unless_implied(field, kind)
+                made += self.omitted(field, kind)
         if groups:
             made += [*lines(all_groups(groups), 8, ";"), "        let row = InGroups(self, groups);"]
         else:
@@ -527,10 +527,10 @@ class Module:
         return [*made, "        write_struct(alloc, row, ser)"]
 
     @staticmethod
-    def unless_implied(field, kind):
+    def omitted(field, kind):
         """What is written for a field that is left out if it has its implicit value."""
         name = field_name(field.name)
-        return lines(Group(f"let {name} = {unless(kind)}(", [f"&self.{name}", meant(kind, field.implicit.value)], ")"), 8, ";")
+        return lines(Group(f"let {name} = {omit(kind)}(", [f"&self.{name}", meant(kind, field.implicit.value)], ")"), 8, ";")
 
     def implied_impls(self, struct):
         """A struct that is made from a row in which fields with implicit values may be left out."""
@@ -590,14 +590,14 @@ class Module:
 
     # -- enums
 
-    def unless_enum(self, enum):
+    def omit_enum(self, enum):
         """What is written for a field of the enum that is left out if it has its implicit value."""
         if enum.name not in self.implied:
             return []
         name = snake(enum.name)
-        head = Group(f"fn {name}_unless(", [f"value: &{enum.name}", f"meant: {enum.name}"], f") -> Option<{enum.name}>", WIDTH)
-        ensures = f"    ensures {{ result ≡ unless_implied {name}_eq meant value.now }}"
-        return ["", *lines(head, 0), ensures, "{", "    unless_meant(value, meant)", "}"]
+        head = Group(f"fn omit_{name}(", [f"value: &{enum.name}", f"implicit: {enum.name}"], f") -> Option<{enum.name}>", WIDTH)
+        ensures = f"    ensures {{ result ≡ unless_implicit {name}_eq implicit value.now }}"
+        return ["", *lines(head, 0), ensures, "{", "    omit_implicit(value, implicit)", "}"]
 
     def enum_impls(self, enum, tree, write):
         """The impls that write a member: by what makes its tree, and by the call that writes it."""
@@ -617,7 +617,7 @@ class Module:
             *self.enum_impls(enum, 'text (codes "{}")', write),
             *self.variants_impl(enum, ["λ v. v"], match("name", [*read, UNKNOWN]), alloc="_alloc"),
             *self.deserialize_impl(enum, read_by(enum, "read_enum", [member.data for member in enum.members])),
-            *self.unless_enum(enum),
+            *self.omit_enum(enum),
         ]
 
     def enum_int(self, enum):
@@ -633,7 +633,7 @@ class Module:
             *self.enum_impls(enum, "integer (pos {})", write),
             *impl(f" Numbered for {enum.name}", *told, of_number),
             *self.deserialize_impl(enum, ["        read_numbered(alloc, de)"]),
-            *self.unless_enum(enum),
+            *self.omit_enum(enum),
         ]
 
     # -- units
@@ -805,7 +805,7 @@ class Module:
         view, shape, made = seen or (f"{name}_row", f"{name}_row_shape", f"{name}_of_row")
         return [
             *impl(
-                f"<'de> Made<'de> for {one.name}",
+                f"<'de> FromParts<'de> for {one.name}",
                 typed("type Parts = ", parts, 4, ";"),
                 ghost("PartsView", [view]),
                 ghost("parts_meaning", parts_meaning),
@@ -814,9 +814,9 @@ class Module:
                 ghost("meaning", meaning),
                 ghost("made", [made]),
                 function("read_parts<R: Read>", ["alloc: Global", DE], "ReadResult<Self::Parts, R>", read),
-                function("of_parts", ["parts: Self::Parts"], f"Option<{one.name}>", of),
+                function("from_parts", ["parts: Self::Parts"], f"Option<{one.name}>", of),
             ),
-            *self.deserialize_impl(one, ["        read_made(alloc, de)"]),
+            *self.deserialize_impl(one, ["        read_from_parts(alloc, de)"]),
         ]
 
     # ---- proofs
@@ -847,7 +847,7 @@ class Module:
         """The answers for writing a struct in which a field has an implicit value."""
         if not has_implied(struct):
             return {}
-        calls = [f"c.{unless(kind)}-{field_name(field.name)}.ensures" for field, kind in self.fields(struct) if field.implicit is not None]
+        calls = [f"c.{omit(kind)}-{field_name(field.name)}.ensures" for field, kind in self.fields(struct) if field.implicit is not None]
         steps, rows = "".join(f"rw (sym {call}) (" for call in calls), []
         for clause in ("written", "well_formed") if len(struct.fields) > SEARCHED_FIELDS else ("written",):
             rows += answer(f"returns-clause-{clause}", f"{steps}c.write_struct.ensures.{clause}{')' * len(calls)}")
@@ -885,7 +885,7 @@ class Module:
             opened += f"rw (taken{number}.0, taken{number}.1) ("
         uses = [f"use Rattle.std.proofs.Common.{{◌∙◌, {word}, sym}}", "use Rattle.types_schema.proofs.PairNames.{taken_under}"]
         rows = ["", "pub returns : goal.returns", "returns c =", *steps, f"    {opened}{end}{')' * len(steps)}"]
-        return self.file_of(struct, "Made.of_parts", f"What the pairs of {struct.name} make", uses, rows)
+        return self.file_of(struct, "FromParts.from_parts", f"What the pairs of {struct.name} make", uses, rows)
 
     @staticmethod
     def arm_words(union):
@@ -913,7 +913,7 @@ class Module:
         ]
         uses = ["use Rattle.std.proofs.Common.{◌∙◌, refl, codes}", "use Rattle.dagcbor_read.proofs.FieldPlaces.{other_name}"]
         rows = ["", "pub returns : goal.returns", "returns c =", *steps, f"    refl{')' * len(steps)}"]
-        return self.file_of(union, "Made.of_parts", f"A text that tells no member of {union.name}", uses, rows)
+        return self.file_of(union, "FromParts.from_parts", f"A text that tells no member of {union.name}", uses, rows)
 
     def content_answers(self, union):
         """The proofs that what a member holds is refused. If its tag is a word, or there are many members, also that it is read. If
@@ -1089,9 +1089,9 @@ def meant(kind, value):
     return str(value).lower() if isinstance(value, bool) else str(value)
 
 
-def unless(kind):
+def omit(kind):
     """The function that leaves out the implicit value."""
-    return f"{snake(kind.name)}_unless" if isinstance(kind, Named) else "unless_meant"
+    return f"omit_{snake(kind.name)}" if isinstance(kind, Named) else "omit_implicit"
 
 
 def equal_to(kind, value):

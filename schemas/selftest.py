@@ -161,7 +161,7 @@ MADE = [
     ("type A struct {\n  # How many.\n  x Int\n}", "    /// How many."),
     ("type A struct {\n  x Int (implicit \"5\") # as u8\n}", "            Some(5) => return None,"),
     ("type A struct {\n  x B (implicit \"c\")\n}\ntype B enum {\n  | C (\"c\")\n}", "            Some(B::C) => return None,"),
-    ("type A struct {\n  x Int (implicit -5)\n}", "        let x = unless_meant(&self.x, -5);"),
+    ("type A struct {\n  x Int (implicit -5)\n}", "        let x = omit_implicit(&self.x, -5);"),
     ("type A union {\n  | B list\n  | Int int\n} representation kinded\ntype B [Int]", "    type Parts = ByKind<NoKind, i128, NoKind, NoKind, Vec<i64>, NoKind, NoKind>;"),
     ("type A union {\n  | Int \"i\"\n} representation envelope {\n  discriminantKey \"t\"\n  contentKey \"v\"\n}", '        read_enveloped(alloc, "t", "v", de)'),
 ]

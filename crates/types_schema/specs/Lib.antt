@@ -5,6 +5,6 @@ pub mod Kinds
 pub mod Envelopes
 pub mod Parts
 pub mod Members
-pub mod Implied
+pub mod Implicit
 pub mod Pairs
 pub mod WrittenGroups

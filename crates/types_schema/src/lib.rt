@@ -5,8 +5,8 @@
 
 mod by_kind;
 mod envelope;
-mod implied;
-mod made;
+mod from_parts;
+mod implicit;
 mod numbered;
 mod pairs;
 mod part_row;
@@ -14,8 +14,8 @@ mod written_groups;
 
 pub use by_kind::{ByKind, NoKind};
 pub use envelope::{Enveloped, read_enveloped};
-pub use implied::unless_meant;
-pub use made::{Made, read_made};
+pub use from_parts::{FromParts, read_from_parts};
+pub use implicit::omit_implicit;
 pub use numbered::{Numbered, read_numbered};
 pub use pairs::of_name;
 pub use part_row::{OptionalPart, Part, PartRow, write_parts};

@@ -39,10 +39,7 @@ pub fn from_slice<'de, T: Deserialize<'de>>(
     let mut block = Block::new(alloc, bytes);
     match read_whole(alloc, bytes, &mut block) {
         Ok(value) => Ok(value),
-        Err(cause) => {
-            let at = block.place_in(bytes);
-            Err(Error::Misfit { cause, at })
-        }
+        Err(cause) => Err(misfit(cause, &block, bytes)),
     }
 }
 
@@ -113,11 +110,16 @@ pub(crate) fn fit<T: DeserializeOwned, E>(alloc: Global, bytes: &[u8]) -> Result
     let mut block = Block::new(alloc, bytes);
     match read_whole_owned(alloc, bytes, &mut block) {
         Ok(value) => Ok(value),
-        Err(cause) => {
-            let at = block.place_in(bytes);
-            Err(Error::Misfit { cause, at })
-        }
+        Err(cause) => Err(misfit(cause, &block, bytes)),
     }
+}
+
+/// Returns the refusal of a block, with the place that the reader reached.
+fn misfit<E>(cause: Misfit, block: &Block<'_>, bytes: &[u8]) -> Error<E>
+    ensures { IsMisfitIn bytes.now result }
+{
+    let at = block.place_in(bytes);
+    Error::Misfit { cause, at }
 }
 
 /// Rejects bytes that are not a block.
@@ -136,17 +138,9 @@ fn read_whole<'de, T: Deserialize<'de>>(
     bytes: &'de [u8],
     block: &mut Block<'_>,
 ) -> Result<T, Misfit> {
-    let value = read_one(alloc, bytes, block)?;
+    let value = T::deserialize(alloc, &mut Deserializer::new(bytes, block))?;
     block.end()?;
     Ok(value)
-}
-
-fn read_one<'de, T: Deserialize<'de>>(
-    alloc: Global,
-    bytes: &'de [u8],
-    block: &mut Block<'_>,
-) -> Result<T, Misfit> {
-    T::deserialize(alloc, &mut Deserializer::new(bytes, block))
 }
 
 fn read_whole_owned<T: DeserializeOwned>(
@@ -154,15 +148,7 @@ fn read_whole_owned<T: DeserializeOwned>(
     bytes: &[u8],
     block: &mut Block<'_>,
 ) -> Result<T, Misfit> {
-    let value = read_one_owned(alloc, bytes, block)?;
+    let value = T::deserialize_owned(alloc, &mut Deserializer::new(bytes, block))?;
     block.end()?;
     Ok(value)
-}
-
-fn read_one_owned<T: DeserializeOwned>(
-    alloc: Global,
-    bytes: &[u8],
-    block: &mut Block<'_>,
-) -> Result<T, Misfit> {
-    T::deserialize_owned(alloc, &mut Deserializer::new(bytes, block))
 }

@@ -13,7 +13,7 @@ use serde_ipld_dagcbor::{DecodeError, Deserializer, Read, ReadResult};
 use std::alloc::Global;
 
 /// A value made of parts, which are read first.
-pub trait Made<'de>: Sized + Drop {
+pub trait FromParts<'de>: Sized + Drop {
     type Parts: Drop;
 
     ghost PartsView: { Type 0 };
@@ -42,13 +42,13 @@ pub trait Made<'de>: Sized + Drop {
         ensures failed { Over R.reading StaysFailed de.old result de.new }
         ensures answers { Over R.reading Self.parts_answers de.old result de.new };
 
-    fn of_parts(parts: Self::Parts) -> Option<Self>
+    fn from_parts(parts: Self::Parts) -> Option<Self>
         ensures { option_map meaning result ≡ made (parts_meaning parts) };
 }
 
 /// Reads the parts and makes the value of them. Parts that do not make a value are refused with
 /// `Msg("no such value")`.
-pub fn read_made<'de, T: Made<'de>, R: Read>(
+pub fn read_from_parts<'de, T: FromParts<'de>, R: Read>(
     alloc: Global,
     de: &mut Deserializer<'de, R>,
 ) -> ReadResult<T, R>
@@ -59,7 +59,7 @@ pub fn read_made<'de, T: Made<'de>, R: Read>(
         (codes "no such value") T.parts_answers) de.old result de.new }
 {
     let parts = T::read_parts(alloc, de)?;
-    match T::of_parts(parts) {
+    match T::from_parts(parts) {
         Some(value) => Ok(value),
         None => Err(DecodeError::custom("no such value")),
     }

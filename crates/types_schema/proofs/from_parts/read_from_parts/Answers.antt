@@ -2,7 +2,7 @@ use Rattle.std.proofs.Common.{sym, inl, inr}
 use Rattle.dagcbor_heads.proofs.Refusing.{as_refusal}
 use Rattle.dagcbor_read.proofs.Finishing.{value_unfinished}
 use Rattle.dagcbor_read.proofs.Handing.{says}
-use Rattle.types_schema.proofs.made.read_made.Goals as goal
+use Rattle.types_schema.proofs.from_parts.read_from_parts.Goals as goal
 
 pub returns-in-None-clause-value : goal.returns-in-None-clause-value
 returns-in-None-clause-value g c = value_unfinished _ _ _ (c.custom.ensures.0, c.custom.ensures.1) (sym c.in-None.ensures) c.in_ok-parts.ensures.value

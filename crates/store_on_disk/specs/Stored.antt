@@ -1,6 +1,6 @@
 -- What a store holds, and what its calls answer.
 use Rattle.std.specs.Prelude.{◌≡◌, ◌≢◌, ◌↔◌, ◌⊎◌, ℕ, ◌≤◌, Vec, false, ℤ, pos, List, [], ◌∷◌, ◌++◌}
-use Rattle.std.specs.Prelude.{⊤, Option, None, Some, Bool, IsTrue, Result, Ok, Err}
+use Rattle.std.specs.Prelude.{⊤, Option, None, Some, Bool, IsTrue, Result, Ok, Err, OnOk}
 use Rattle.std.specs.declared.cmp.Ordering.TheVariants.{Less}
 use Rattle.sha2.specs.Sha256.{sha256}
 use Rattle.sqlite_disk.specs.Disk.{MoreFaults}
@@ -23,7 +23,7 @@ use Rattle.ipld_links.specs.Sets.{Among}
 use Rattle.store_rows.specs.Rows.{block_tree, name_tree, block_row, name_entry, name_cmp, IsStored}
 use Rattle.store_rows.specs.Rows.{IsListed, IsKeyed, FreesId, IsTooLong}
 use Rattle.store_rows.specs.RootRows.{root_tree, IsRootShape, AreRoots}
-use Rattle.store_rows.specs.Ends.{KeepsOthers, IsOfBlocks}
+use Rattle.store_rows.specs.Ends.{Quiet, KeepsOthers, IsOfBlocks}
 use Rattle.std.specs.declared.alloc.Global.{Global}
 use Rattle.store_rows.specs.declared.entries.Added.{Added}
 use Rattle.store_rows.specs.declared.entries.Added.TheVariants.{New, Stored, NoNumber}
@@ -97,6 +97,13 @@ pub record IsSame (old new : View) : Type 0 where
 -- sees, nor in what was committed
 abbrev pub StaysSame : {S : Type 0} → Ghosts S → S → S → Type 0
 StaysSame g old new = IsClean (g.view new) → IsSame (g.view old) (g.view new)
+
+-- How a call that just reads ends. If it succeeds, then unless a wrong answer of the disk was taken
+-- as true, nothing has changed in what the transaction sees, nor in what was committed. Whatever it
+-- answers, no fault is forgotten, a crash has no new outcome, and only a fault shuts the store.
+pub record JustReads {S T E : Type 0} (g : Ghosts S) (result : Result T E) (old new : S) : Type 0 where
+  pub same : OnOk result (StaysSame g old new)
+  pub quiet : Quiet g old new
 
 -- unless a wrong answer of the disk was taken as true, it is so in the store, and nothing has
 -- changed in what the transaction sees, nor in what was committed

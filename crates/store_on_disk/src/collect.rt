@@ -4,7 +4,7 @@ ghost use Rattle.std.specs.Prelude.{◌≡◌, ◌⊎◌, IfOk, IfErr, OnOk, opt
 ghost use Rattle.ipld_links.specs.Sets.{Among};
 ghost use Rattle.sqlite_trees.specs.View.{IsClean};
 ghost use Rattle.store_rows.specs.Ends.{Quiet, KeepsOthers, IsOfBlocks};
-ghost use Rattle.store_on_disk.specs.Stored.{StaysSame, FailsByStore, IsKeptBy};
+ghost use Rattle.store_on_disk.specs.Stored.{JustReads, FailsByStore, IsKeptBy};
 ghost use Rattle.store_on_disk.specs.Leaving.{StillLeavesStore};
 ghost use Rattle.store_on_disk.specs.Trees.{GetsKnown, StopsAt, AtName, ReachesBeside, AtMetBeside};
 ghost use Rattle.store_on_disk.specs.Trees.{IsShownToWalk, VisitsShown};
@@ -67,9 +67,8 @@ impl<S: Store> BlockStore<S> {
     fn mark_roots(&mut self, roots: &[Cid]) -> Result<BTreeSet<Cid>, StoreRefusal>
         ensures ok { IfOk result (λ kept. IsClean (S.Store.view self.new)
             → MarksRoots (S.Store.view self.old) roots.now kept) }
-        ensures same { OnOk result (StaysSame S.Store self.old self.new) }
         ensures refused { IfErr result (CollectRefused S.Store roots.now self.old self.new) }
-        ensures quiet { Quiet S.Store self.old self.new }
+        ensures reads { JustReads S.Store result self.old self.new }
     {
         self.check_roots(roots)?;
         self.mark(roots)
@@ -79,9 +78,8 @@ impl<S: Store> BlockStore<S> {
     fn check_roots(&mut self, roots: &[Cid]) -> Result<(), StoreRefusal>
         ensures ok { OnOk result (IsClean (S.Store.view self.new)
             → HaveBlocks (S.Store.view self.old) roots.now) }
-        ensures same { OnOk result (StaysSame S.Store self.old self.new) }
         ensures refused { IfErr result (BlocksLacking S.Store (λ n. Among n roots.now) self.old self.new) }
-        ensures quiet { Quiet S.Store self.old self.new }
+        ensures reads { JustReads S.Store result self.old self.new }
     {
         for root in roots {
             self.check_root(root)?;
@@ -93,9 +91,8 @@ impl<S: Store> BlockStore<S> {
     fn check_root(&mut self, root: &Cid) -> Result<(), StoreRefusal>
         ensures ok { OnOk result (IsClean (S.Store.view self.new)
             → HasBlockAt (S.Store.view self.old) root.now) }
-        ensures same { OnOk result (StaysSame S.Store self.old self.new) }
         ensures refused { IfErr result (BlocksLacking S.Store (λ n. n ≡ root.now) self.old self.new) }
-        ensures quiet { Quiet S.Store self.old self.new }
+        ensures reads { JustReads S.Store result self.old self.new }
     {
         if root.hash_code() == IDENTITY {
             return Ok(());
@@ -112,9 +109,8 @@ impl<S: Store> BlockStore<S> {
     fn mark(&mut self, roots: &[Cid]) -> Result<BTreeSet<Cid>, StoreRefusal>
         ensures ok { IfOk result (λ kept. IsClean (S.Store.view self.new)
             → Marks (S.Store.view self.old) roots.now kept) }
-        ensures same { OnOk result (StaysSame S.Store self.old self.new) }
         ensures refused { IfErr result (StopsAt S.Store (AtRooted roots.now) self.old self.new) }
-        ensures quiet { Quiet S.Store self.old self.new }
+        ensures reads { JustReads S.Store result self.old self.new }
     {
         let mut kept = BTreeSet::new(self.alloc);
         for root in roots {
@@ -127,9 +123,8 @@ impl<S: Store> BlockStore<S> {
     fn mark_from(&mut self, root: &Cid, kept: &mut BTreeSet<Cid>) -> Result<(), StoreRefusal>
         ensures ok { OnOk result (IsClean (S.Store.view self.new)
             → MarksMore (S.Store.view self.old) root.now kept.old kept.new) }
-        ensures same { OnOk result (StaysSame S.Store self.old self.new) }
         ensures refused { IfErr result (StopsAt S.Store (AtMarked root.now kept.old) self.old self.new) }
-        ensures quiet { Quiet S.Store self.old self.new }
+        ensures reads { JustReads S.Store result self.old self.new }
     {
         let reached = self.reach_beside(root, kept)?;
         match put_all(&reached.found, kept) {
@@ -147,9 +142,8 @@ impl<S: Store> BlockStore<S> {
     ) -> Result<Reached, StoreRefusal>
         ensures ok { IfOk result (λ r. IsClean (S.Store.view self.new)
             → ReachesBeside (S.Store.view self.old) kept.now root.now r) }
-        ensures same { OnOk result (StaysSame S.Store self.old self.new) }
         ensures refused { IfErr result (StopsAt S.Store (AtMetBeside root.now kept.now) self.old self.new) }
-        ensures quiet { Quiet S.Store self.old self.new }
+        ensures reads { JustReads S.Store result self.old self.new }
     {
         let Ok(mut walk) = Walk::new(self.alloc, root) else {
             return Err(self.give_up());
@@ -172,9 +166,8 @@ impl<S: Store> BlockStore<S> {
     ) -> Result<(), StoreRefusal>
         ensures ok { OnOk result (IsClean (S.Store.view self.new)
             → VisitsShown (S.Store.view self.old) kept.now name walk.old walk.new) }
-        ensures same { OnOk result (StaysSame S.Store self.old self.new) }
         ensures refused { IfErr result (StopsAt S.Store (AtName name) self.old self.new) }
-        ensures quiet { Quiet S.Store self.old self.new }
+        ensures reads { JustReads S.Store result self.old self.new }
     {
         let block = self.shown(&name, kept)?;
         match walk.visit(name, block.as_deref()) {
@@ -189,9 +182,8 @@ impl<S: Store> BlockStore<S> {
         ensures ok { IfOk result (λ o. IsClean (S.Store.view self.new)
             → IsShownToWalk (S.Store.view self.old) kept.now name.now
             (option_map (λ b. b.items) o)) }
-        ensures same { OnOk result (StaysSame S.Store self.old self.new) }
         ensures refused { IfErr result (StopsAt S.Store (AtName name.now) self.old self.new) }
-        ensures quiet { Quiet S.Store self.old self.new }
+        ensures reads { JustReads S.Store result self.old self.new }
     {
         if kept.contains(name) {
             return Ok(Some(Vec::new(self.alloc)));
@@ -204,9 +196,8 @@ impl<S: Store> BlockStore<S> {
     pub(crate) fn get_known(&mut self, name: &Cid) -> Result<Option<Vec<u8>>, StoreRefusal>
         ensures ok { IfOk result (λ o. IsClean (S.Store.view self.new)
             → GetsKnown (S.Store.view self.old) name.now (option_map (λ b. b.items) o)) }
-        ensures same { OnOk result (StaysSame S.Store self.old self.new) }
         ensures refused { IfErr result (StopsAt S.Store (AtName name.now) self.old self.new) }
-        ensures quiet { Quiet S.Store self.old self.new }
+        ensures reads { JustReads S.Store result self.old self.new }
     {
         let block = self.get_block(name)?;
         match hidden_under(name, block.as_deref()) {

@@ -5,8 +5,7 @@ ghost use Rattle.dagcbor_items.specs.Walks.{forms};
 ghost use Rattle.ipld_links.specs.Sets.{Among};
 ghost use Rattle.ipld_links.specs.Blocks.{IsBlockOf};
 ghost use Rattle.sqlite_trees.specs.View.{IsClean};
-ghost use Rattle.store_rows.specs.Ends.{Quiet};
-ghost use Rattle.store_on_disk.specs.Stored.{StaysSame, FailsByStore};
+ghost use Rattle.store_on_disk.specs.Stored.{JustReads, FailsByStore};
 ghost use Rattle.store_on_disk.specs.Lost.{ListsLostLinks, LostRefused, AddsLost, AddsUnlisted};
 ghost use Rattle.store_on_disk.specs.Lost.{AddsNames, AddsLostLinks, ListsKeys, GrowsByLost};
 ghost use Rattle.store_on_disk.specs.Lost.{IsReachedIn};
@@ -38,9 +37,8 @@ impl<S: Store> BlockStore<S> {
     pub fn lost(&mut self) -> Result<Vec<Cid>, StoreRefusal>
         ensures lists { IfOk result (λ v. IsClean (S.Store.view self.new)
             → ListsLostLinks (S.Store.view self.old) v.items) }
-        ensures same { OnOk result (StaysSame S.Store self.old self.new) }
         ensures refused { IfErr result (LostRefused S.Store self.old self.new) }
-        ensures quiet { Quiet S.Store self.old self.new }
+        ensures reads { JustReads S.Store result self.old self.new }
     {
         let mut lost = BTreeSet::new(self.alloc);
         let mut last = None;
@@ -65,9 +63,8 @@ impl<S: Store> BlockStore<S> {
     ) -> Result<Option<Cid>, StoreRefusal>
         ensures ok { IfOk result (λ next. IsClean (S.Store.view self.new)
             → AddsLostLinks (S.Store.view self.old) last lost.old next lost.new) }
-        ensures same { OnOk result (StaysSame S.Store self.old self.new) }
         ensures refused { IfErr result (LostRefused S.Store self.old self.new) }
-        ensures quiet { Quiet S.Store self.old self.new }
+        ensures reads { JustReads S.Store result self.old self.new }
     {
         let (name, block) = match self.next_block(last)? {
             Some(next) => next,
@@ -95,9 +92,8 @@ impl<S: Store> BlockStore<S> {
         ensures ok { OnOk result (IsClean (S.Store.view self.new)
             → AddsLost (S.Store.view self.old) codec block.now lost.old lost.new) }
         ensures grows { GrowsByLost (IsReachedIn codec block.now) lost.old lost.new }
-        ensures same { OnOk result (StaysSame S.Store self.old self.new) }
         ensures refused { IfErr result (FailsByStore S.Store ⊥ self.old self.new) }
-        ensures quiet { Quiet S.Store self.old self.new }
+        ensures reads { JustReads S.Store result self.old self.new }
     {
         match names_of_block(self.alloc, codec, block) {
             Ok(names) => self.add_unlisted(&names, lost),
@@ -110,9 +106,8 @@ impl<S: Store> BlockStore<S> {
         ensures ok { OnOk result (IsClean (S.Store.view self.new)
             → AddsNames (S.Store.view self.old) names.now lost.old lost.new) }
         ensures grows { GrowsByLost (λ q. Among q names.now) lost.old lost.new }
-        ensures same { OnOk result (StaysSame S.Store self.old self.new) }
         ensures refused { IfErr result (FailsByStore S.Store ⊥ self.old self.new) }
-        ensures quiet { Quiet S.Store self.old self.new }
+        ensures reads { JustReads S.Store result self.old self.new }
     {
         for name in names {
             self.add_if_unlisted(name, lost)?;
@@ -124,9 +119,8 @@ impl<S: Store> BlockStore<S> {
         ensures ok { OnOk result (IsClean (S.Store.view self.new)
             → AddsUnlisted (S.Store.view self.old) name.now lost.old lost.new) }
         ensures grows { GrowsByLost (λ q. q ≡ name.now) lost.old lost.new }
-        ensures same { OnOk result (StaysSame S.Store self.old self.new) }
         ensures refused { IfErr result (FailsByStore S.Store ⊥ self.old self.new) }
-        ensures quiet { Quiet S.Store self.old self.new }
+        ensures reads { JustReads S.Store result self.old self.new }
     {
         if self.contains(name)? {
             return Ok(());

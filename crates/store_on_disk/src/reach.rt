@@ -1,9 +1,8 @@
 //! A walk along links within a store.
 
-ghost use Rattle.std.specs.Prelude.{IfOk, IfErr, OnOk};
+ghost use Rattle.std.specs.Prelude.{IfOk, IfErr};
 ghost use Rattle.sqlite_trees.specs.View.{IsClean};
-ghost use Rattle.store_rows.specs.Ends.{Quiet};
-ghost use Rattle.store_on_disk.specs.Stored.{StaysSame};
+ghost use Rattle.store_on_disk.specs.Stored.{JustReads};
 ghost use Rattle.store_on_disk.specs.Trees.{Reaches, ReachRefused};
 
 use crate::error::StoreRefusal;
@@ -20,9 +19,8 @@ impl<S: Store> BlockStore<S> {
     pub fn reach(&mut self, root: &Cid) -> Result<Reached, StoreRefusal>
         ensures reached { IfOk result (λ r. IsClean (S.Store.view self.new)
             → Reaches (S.Store.view self.old) root.now r) }
-        ensures same { OnOk result (StaysSame S.Store self.old self.new) }
         ensures refused { IfErr result (ReachRefused S.Store root.now self.old self.new) }
-        ensures quiet { Quiet S.Store self.old self.new }
+        ensures reads { JustReads S.Store result self.old self.new }
     {
         let none = BTreeSet::new(self.alloc);
         self.reach_beside(root, &none)

@@ -3,7 +3,7 @@
 ghost use Rattle.std.specs.Prelude.{◌≡◌, [], ◌∷◌, IfOk, IfErr, OnOk};
 ghost use Rattle.sqlite_trees.specs.View.{IsClean, KeepsSchema};
 ghost use Rattle.store_rows.specs.Ends.{Quiet};
-ghost use Rattle.store_on_disk.specs.Stored.{StaysSame, FailsByStore};
+ghost use Rattle.store_on_disk.specs.Stored.{JustReads, FailsByStore};
 ghost use Rattle.store_on_disk.specs.Roots.{HasRoots, IsRootTaken, KeepsRoots, MayKeepRoots};
 ghost use Rattle.store_on_disk.specs.Roots.{AreRootsAdded, RootsRefused, HasJust, KnowsRoots};
 ghost use Rattle.store_on_disk.specs.Roots.{IsRootAdded, RootRefused};
@@ -23,10 +23,9 @@ impl<S: Store> BlockStore<S> {
     pub fn roots(&mut self) -> Result<Vec<Cid>, StoreRefusal>
         ensures ok { IfOk result (λ names. IsClean (S.Store.view self.new)
             → HasRoots (S.Store.view self.old) names.items) }
-        ensures same { OnOk result (StaysSame S.Store self.old self.new) }
         ensures schema { OnOk result (KeepsSchema (S.Store.view self.old) (S.Store.view self.new)) }
         ensures refused { IfErr result (FailsByStore S.Store ⊥ self.old self.new) }
-        ensures quiet { Quiet S.Store self.old self.new }
+        ensures reads { JustReads S.Store result self.old self.new }
     {
         match roots::list(self.alloc, &mut self.store, &mut self.row) {
             Ok(Some(names)) => Ok(names),
@@ -77,10 +76,9 @@ impl<S: Store> BlockStore<S> {
     fn known_roots(&mut self) -> Result<CidSet, StoreRefusal>
         ensures ok { IfOk result (λ known. IsClean (S.Store.view self.new)
             → KnowsRoots (S.Store.view self.old) known) }
-        ensures same { OnOk result (StaysSame S.Store self.old self.new) }
         ensures schema { OnOk result (KeepsSchema (S.Store.view self.old) (S.Store.view self.new)) }
         ensures refused { IfErr result (FailsByStore S.Store ⊥ self.old self.new) }
-        ensures quiet { Quiet S.Store self.old self.new }
+        ensures reads { JustReads S.Store result self.old self.new }
     {
         let names = self.roots()?;
         match set_of(self.alloc, &names) {

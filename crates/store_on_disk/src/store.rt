@@ -8,7 +8,7 @@ ghost use Rattle.store_rows.specs.Rows.{name_tree};
 ghost use Rattle.sqlite_trees.specs.View.{IsClean, IsRolledBack};
 ghost use Rattle.store_on_disk.specs.Leaving.{StillLeavesStore};
 ghost use Rattle.store_on_disk.specs.Stored.{IsReady, GivesNextName, bound_after, ListsName};
-ghost use Rattle.store_on_disk.specs.Stored.{StaysSame, IsUndone, IsNamedBy, GetsSome, GetRefused};
+ghost use Rattle.store_on_disk.specs.Stored.{JustReads, IsUndone, IsNamedBy, GetsSome, GetRefused};
 ghost use Rattle.store_on_disk.specs.Stored.{FailsByStore, TellsOfStore, IsCommitted, IsKeptBy};
 ghost use Rattle.store_on_disk.specs.Stored.{IsAdded, IsAddedTo, IsPut, IsTaken, PutRefused};
 ghost use Rattle.store_on_disk.specs.Stored.{AnswersVerified, IsToldAdded, IsBadRow, number_in};
@@ -108,9 +108,8 @@ impl<S: Store> BlockStore<S> {
     pub fn len(&mut self) -> Result<u64, StoreRefusal>
         ensures ok { IfOk result (λ n. IsClean (S.Store.view self.new)
             → n ≡ length ((S.Store.view self.old).trees name_tree)) }
-        ensures same { OnOk result (StaysSame S.Store self.old self.new) }
         ensures refused { IfErr result (FailsByStore S.Store ⊥ self.old self.new) }
-        ensures quiet { Quiet S.Store self.old self.new }
+        ensures reads { JustReads S.Store result self.old self.new }
     {
         match survey(self.alloc, &mut self.store, &mut self.row) {
             Ok(Some(count)) => Ok(count),
@@ -124,9 +123,8 @@ impl<S: Store> BlockStore<S> {
     pub fn contains(&mut self, name: &Cid) -> Result<bool, StoreRefusal>
         ensures found { IfOk result (λ found. IsClean (S.Store.view self.new)
             → (IsTrue found ↔ ListsName (S.Store.view self.old) name.now)) }
-        ensures same { OnOk result (StaysSame S.Store self.old self.new) }
         ensures refused { IfErr result (FailsByStore S.Store ⊥ self.old self.new) }
-        ensures quiet { Quiet S.Store self.old self.new }
+        ensures reads { JustReads S.Store result self.old self.new }
     {
         let mut form = ArrayVec::new();
         name.write_bytes(&mut form);
@@ -142,9 +140,8 @@ impl<S: Store> BlockStore<S> {
     pub fn next_name(&mut self, last: Option<Cid>) -> Result<Option<Cid>, StoreRefusal>
         ensures next { IfOk result (λ next. IsClean (S.Store.view self.new)
             → GivesNextName (S.Store.view self.old) last next) }
-        ensures same { OnOk result (StaysSame S.Store self.old self.new) }
         ensures refused { IfErr result (FailsByStore S.Store ⊥ self.old self.new) }
-        ensures quiet { Quiet S.Store self.old self.new }
+        ensures reads { JustReads S.Store result self.old self.new }
     {
         let bound = bound_after(last);
         match entries::first_from(&mut self.store, &mut self.row, &bound) {
@@ -161,9 +158,8 @@ impl<S: Store> BlockStore<S> {
         ensures verified { IfOk result (λ found. IfSome found (λ b. IsNamedBy name.now b.items)) }
         ensures found { IfOk result (λ found. IsClean (S.Store.view self.new)
             → GetsSome (S.Store.view self.old) name.now (option_map (λ b. b.items) found)) }
-        ensures same { OnOk result (StaysSame S.Store self.old self.new) }
         ensures refused { IfErr result (GetRefused S.Store name.now self.old self.new) }
-        ensures quiet { Quiet S.Store self.old self.new }
+        ensures reads { JustReads S.Store result self.old self.new }
     {
         let mut form = ArrayVec::new();
         name.write_bytes(&mut form);

@@ -1,11 +1,10 @@
 //! Storing values, and reading them.
 
-ghost use Rattle.std.specs.Prelude.{◌⊎◌, IsSomeAnd, IfOk, IfErr, OnOk, option_map};
+ghost use Rattle.std.specs.Prelude.{◌⊎◌, IsSomeAnd, IfOk, IfErr, option_map};
 ghost use Rattle.ipld_tree.specs.Spelling.{spelling};
 ghost use Rattle.ipld_links.specs.Names.{block_name};
 ghost use Rattle.sqlite_trees.specs.View.{IsClean};
-ghost use Rattle.store_rows.specs.Ends.{Quiet};
-ghost use Rattle.store_on_disk.specs.Stored.{StaysSame, IsAddedTo, IsKeptBy};
+ghost use Rattle.store_on_disk.specs.Stored.{JustReads, IsAddedTo, IsKeptBy};
 ghost use Rattle.store_on_disk.specs.Leaving.{StillLeavesStore};
 ghost use Rattle.store_on_disk.specs.Values.{PutsValue, PutValueRefused, ShowsNamed, GetsValue};
 ghost use Rattle.store_on_disk.specs.Values.{GetValueRefused};
@@ -74,9 +73,8 @@ impl<S: Store> BlockStore<S> {
         ensures named { IfOk result (ShowsNamed T.meaning T.shape name.now) }
         ensures gets { IfOk result (λ found. IsClean (S.Store.view self.new)
             → GetsValue T.meaning T.shape (S.Store.view self.old) name.now found) }
-        ensures same { OnOk result (StaysSame S.Store self.old self.new) }
         ensures refused { IfErr result (λ e. GetValueRefused S.Store T.shape name.now self.old e self.new) }
-        ensures quiet { Quiet S.Store self.old self.new }
+        ensures reads { JustReads S.Store result self.old self.new }
     {
         let block = match self.get_block(name) {
             Ok(None) => return Ok(None),

@@ -1,9 +1,9 @@
 //! A walk over the blocks, in the order of their names.
 
-ghost use Rattle.std.specs.Prelude.{IfOk, IfErr, OnOk};
+ghost use Rattle.std.specs.Prelude.{IfOk, IfErr};
 ghost use Rattle.sqlite_trees.specs.View.{IsClean};
 ghost use Rattle.store_rows.specs.Ends.{Quiet};
-ghost use Rattle.store_on_disk.specs.Stored.{StaysSame, FailsByStore};
+ghost use Rattle.store_on_disk.specs.Stored.{JustReads, FailsByStore};
 ghost use Rattle.store_on_disk.specs.Walking.{NextBlock, IsNamedNext, WalkRefused, IsOfNext};
 
 use crate::error::StoreRefusal;
@@ -18,10 +18,9 @@ impl<S: Store> BlockStore<S> {
         ensures verified { IfOk result IsNamedNext }
         ensures next { IfOk result (λ next. IsClean (S.Store.view self.new)
             → NextBlock (S.Store.view self.old) last next) }
-        ensures same { OnOk result (StaysSame S.Store self.old self.new) }
         ensures refused { IfErr result (WalkRefused S.Store self.old self.new) }
         ensures of_next { IfErr result (IsOfNext S.Store last self.old self.new) }
-        ensures quiet { Quiet S.Store self.old self.new }
+        ensures reads { JustReads S.Store result self.old self.new }
     {
         let Some(name) = self.next_name(last)? else {
             return Ok(None);

@@ -9,7 +9,7 @@ returns-in-Ok-clause-ok g c clean =
     (λ l. true≢false (sym ((c.in_ok-contains.ensures.found clean).1 l) ∙ c.if-branch.false)) c.in-Ok.ensures.updates.0
 
 pub returns-in-Err-clause-refused : goal.returns-in-Err-clause-refused
-returns-in-Err-clause-refused g c = fails_same g.S.Store c.args.self.now c.contains.new.self c.give_up.new.self c.give_up.result c.in_ok-contains.ensures.quiet c.in_ok-contains.ensures.same c.give_up.ensures.quiet c.give_up.ensures.refused
+returns-in-Err-clause-refused g c = fails_same g.S.Store c.args.self.now c.contains.new.self c.give_up.new.self c.give_up.result c.in_ok-contains.ensures.reads.quiet c.in_ok-contains.ensures.reads.same c.give_up.ensures.quiet c.give_up.ensures.refused
 
 pub returns-in-Ok-clause-grows : goal.returns-in-Ok-clause-grows
 returns-in-Ok-clause-grows g c = grows_put c.args.name.now c.args.lost.now c.insert.new.self c.in-Ok.ensures.updates.0

@@ -7,10 +7,10 @@ use Rattle.store_on_disk.proofs.store.BlockStore.add_roots.Goals as goal
 
 pub loop-name-init : goal.loop-name-init
 loop-name-init g c = (
-  c.known_roots.ensures.quiet,
-  λ clean. roots_none (g.S.Store.view c.args.self.now) (g.S.Store.view c.known_roots.new.self) (c.in_ok-known.ensures.same clean) c.in_ok-known.ensures.schema,
+  c.known_roots.ensures.reads.quiet,
+  λ clean. roots_none (g.S.Store.view c.args.self.now) (g.S.Store.view c.known_roots.new.self) (c.in_ok-known.ensures.reads.same clean) c.in_ok-known.ensures.schema,
   c.in_ok-known.ensures.schema.shape,
-  λ clean. known_since (g.S.Store.view c.args.self.now) (g.S.Store.view c.known_roots.new.self) c.in_ok-known.known (c.in_ok-known.ensures.same clean) (c.in_ok-known.ensures.ok clean),
+  λ clean. known_since (g.S.Store.view c.args.self.now) (g.S.Store.view c.known_roots.new.self) c.in_ok-known.known (c.in_ok-known.ensures.reads.same clean) (c.in_ok-known.ensures.ok clean),
 )
 
 pub loop-name-preserved : goal.loop-name-preserved

@@ -22,7 +22,7 @@ returns-clause-refused g c =
         c.in-Ok-Some.block.items,
         (
           rw c.in-Ok-Some.field-0-is at c.in-Ok-Some.ensures.verified,
-          λ clean. (rw c.in-Ok-Some.field-0-is at (c.in-Ok-Some.ensures.found clean), c.in-Ok-Some.ensures.same clean),
+          λ clean. (rw c.in-Ok-Some.field-0-is at (c.in-Ok-Some.ensures.found clean), c.in-Ok-Some.ensures.reads.same clean),
         ),
         record {
           of_whole = c.in-Err-from_slice_owned.ensures.never;

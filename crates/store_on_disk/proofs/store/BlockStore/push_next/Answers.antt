@@ -11,7 +11,7 @@ returns-in-Ok-clause-next g c =
       named = rw c.in-Ok-Some.field-0-is at c.in-Ok-Some.ensures.verified;
       is_section = subst (λ b. IsSection (name, b)) c.deref.ensures.value c.in-Ok.ensures.section;
       wrote = subst (λ b. WroteAll (Some (section_bytes (name, b))) (g.W.Write.written c.args.writer.now) (g.W.Write.written c.push_section.new.writer)) c.deref.ensures.value c.in-Ok.ensures.written;
-      is_so = λ clean. ((rw c.in-Ok-Some.field-0-is at c.in-Ok-Some.ensures.next) clean, c.in-Ok-Some.ensures.same clean);
+      is_so = λ clean. ((rw c.in-Ok-Some.field-0-is at c.in-Ok-Some.ensures.next) clean, c.in-Ok-Some.ensures.reads.same clean);
     }
 
 pub returns-clause-next : goal.returns-clause-next
@@ -22,6 +22,6 @@ returns-clause-next g c =
         bytes = c.in-Ok-Some.next.1.items;
         named = rw c.in-Ok-Some.field-0-is at c.in-Ok-Some.ensures.verified;
         stops = subst (λ b. Stops (Some (section_bytes (name, b))) (g.W.Write.written c.args.writer.now) (g.W.Write.written c.push_section.new.writer) c.in-Err-push_section.error) c.deref.ensures.value c.in-Err-push_section.ensures.written;
-        is_so = λ clean. ((rw c.in-Ok-Some.field-0-is at c.in-Ok-Some.ensures.next) clean, c.in-Ok-Some.ensures.same clean);
+        is_so = λ clean. ((rw c.in-Ok-Some.field-0-is at c.in-Ok-Some.ensures.next) clean, c.in-Ok-Some.ensures.reads.same clean);
       },
     )

@@ -30,18 +30,18 @@ returns-in_err-visit_beside-clause-refused g c =
     let p = err_from_is_err_and c.from_residual.result c.from_residual.ensures.1 in
     rw (p.1, p.2) (stops_after g.S.Store (AtName c.in-Some.name) (AtMetBeside c.args.root.now c.args.kept.now) c.args.self.now c.loop-count.self c.visit_beside.new.self c.in_err-visit_beside.field-0.0 c.loop-count.invariant.0 (λ clean. (c.loop-count.invariant.1 clean).0)
     (λ clean n A B f h. (f h.1, λ stored fits. subst (LeadsFar stored c.args.root.now) (sym h.0) (leads_next stored c.args.root.now c.in-Some.name c.next.new.self (c.in-Some.ensures.next stored c.args.root.now ((c.loop-count.invariant.1 clean).1 stored fits)))))
-    (λ clean. omega (arith, c.visit_beside.ensures.quiet.clean)) c.in_err-visit_beside.ensures.refused)
+    (λ clean. omega (arith, c.visit_beside.ensures.reads.quiet.clean)) c.in_err-visit_beside.ensures.refused)
 
 pub loop-count-preserved : goal.loop-count-preserved
 loop-count-preserved g c = (
-  quiet_then g.S.Store c.args.self.now c.loop-count.self c.visit_beside.new.self c.loop-count.invariant.0 c.visit_beside.ensures.quiet,
+  quiet_then g.S.Store c.args.self.now c.loop-count.self c.visit_beside.new.self c.loop-count.invariant.0 c.visit_beside.ensures.reads.quiet,
   λ clean.
-      let mid : IsClean (g.S.Store.view c.loop-count.self) = omega (arith, c.visit_beside.ensures.quiet.clean) in
+      let mid : IsClean (g.S.Store.view c.loop-count.self) = omega (arith, c.visit_beside.ensures.reads.quiet.clean) in
       let w = c.loop-count.invariant.1 mid in
       let old = g.S.Store.view c.args.self.now in
       let now = g.S.Store.view c.loop-count.self in
       let visit = c.in_ok-visit_beside.ensures.ok clean in (
-        same_then old now (g.S.Store.view c.visit_beside.new.self) w.0 (c.in_ok-visit_beside.ensures.same clean),
+        same_then old now (g.S.Store.view c.visit_beside.new.self) w.0 (c.in_ok-visit_beside.ensures.reads.same clean),
         λ stored fits. visit.visits c.args.root.now stored (fits_same old now c.args.kept.now stored w.0 fits) (c.in-Some.ensures.next stored c.args.root.now (w.1 stored fits)),
         all_seen (IsKnownBeside old c.args.kept.now) c.in-Some.name c.next.new.self c.visit_beside.new.walk (λ q m. w.2 q (subst (λ s. Among q s.keys) c.in-Some.ensures.kept.0 m)) (beside_same old now c.args.kept.now c.in-Some.name w.0 visit.known) visit.sees,
       ),

@@ -1,9 +1,8 @@
 //! `at`: what a path leads to in a store.
 
-ghost use Rattle.std.specs.Prelude.{◌≡◌, OnOk, IfErr};
+ghost use Rattle.std.specs.Prelude.{◌≡◌, IfErr};
 ghost use Rattle.ipld_paths.specs.Paths.{segments};
-ghost use Rattle.store_on_disk.specs.Ends.{Quiet};
-ghost use Rattle.store_on_disk.specs.Stored.{StaysSame};
+ghost use Rattle.store_on_disk.specs.Stored.{JustReads};
 ghost use Rattle.program_dagstore.specs.Said.{SaysAll};
 ghost use Rattle.program_dagstore.specs.Ways.{asked_of, IsAnswerIn, WayFails};
 
@@ -36,9 +35,8 @@ pub fn write_at<S: Store, W: Write, V: Write>(
     ensures says { SaysAll (IsAnswerIn is_raw root.now (segments path.now) (S.Store.view store.old)
         (S.Store.view store.new)) (W.contents output.old) (V.contents errors.old) result
         (W.contents output.new) (V.contents errors.new) }
-    ensures same { OnOk result (StaysSame S.Store store.old store.new) }
     ensures fault { IfErr result (WayFails S.Store root.now (segments path.now) store.old store.new) }
-    ensures quiet { Quiet S.Store store.old store.new }
+    ensures reads { JustReads S.Store result store.old store.new }
 {
     let held = gather_way(alloc, store, root, path)?;
     let well = say_asked(alloc, asked_of(is_raw), root, path, &held, output, errors)?;

@@ -1,8 +1,8 @@
 //! `count`, `get` and `has`: a store as a whole, and one block in it.
 
-ghost use Rattle.std.specs.Prelude.{◌≡◌, IfOk, OnOk, IfErr};
+ghost use Rattle.std.specs.Prelude.{◌≡◌, IfOk, IfErr};
 ghost use Rattle.store_on_disk.specs.Ends.{Quiet};
-ghost use Rattle.store_on_disk.specs.Stored.{StaysSame};
+ghost use Rattle.store_on_disk.specs.Stored.{JustReads};
 ghost use Rattle.program_dagstore.specs.Blocks.{SaysCount, IsGotBlock, GetFails, Has};
 ghost use Rattle.program_dagstore.specs.Lines.{holds_line};
 ghost use Rattle.program_dagstore.specs.Said.{StoreFails, SaysAll};
@@ -33,9 +33,8 @@ pub fn count_blocks<S: Store, W: Write>(
 ) -> Result<bool, Fault>
     ensures says { SaysCount (S.Store.view store.old) (W.contents output.old) result
         (S.Store.view store.new) (W.contents output.new) }
-    ensures same { OnOk result (StaysSame S.Store store.old store.new) }
     ensures fault { IfErr result (StoreFails S.Store store.old store.new) }
-    ensures quiet { Quiet S.Store store.old store.new }
+    ensures reads { JustReads S.Store result store.old store.new }
 {
     let count = store.len()?;
     let line = holds_line(alloc, count)?;
@@ -54,9 +53,8 @@ pub fn get_block<S: Store, W: Write, V: Write>(
     ensures says { SaysAll (IsGotBlock name.now (S.Store.view store.old) (S.Store.view store.new))
         (W.contents output.old) (V.contents errors.old) result (W.contents output.new)
         (V.contents errors.new) }
-    ensures same { OnOk result (StaysSame S.Store store.old store.new) }
     ensures fault { IfErr result (GetFails S.Store name.now store.old store.new) }
-    ensures quiet { Quiet S.Store store.old store.new }
+    ensures reads { JustReads S.Store result store.old store.new }
 {
     match store.get_block(name) {
         Ok(Some(block)) => {

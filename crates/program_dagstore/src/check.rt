@@ -2,8 +2,7 @@
 
 ghost use Rattle.std.specs.Prelude.{◌≡◌, [], OnOk, IfOk, IfErr};
 ghost use Rattle.sqlite_trees.specs.View.{IsClean};
-ghost use Rattle.store_on_disk.specs.Ends.{Quiet};
-ghost use Rattle.store_on_disk.specs.Stored.{StaysSame, ListsName, HoldsOnly, IsNamedBy};
+ghost use Rattle.store_on_disk.specs.Stored.{JustReads, ListsName, HoldsOnly, IsNamedBy};
 ghost use Rattle.program_dagstore.specs.Said.{StoreFails};
 ghost use Rattle.program_dagstore.specs.Names.{SaysNames, SaysNext};
 ghost use Rattle.program_dagstore.specs.Checks.{is_linked, IsCheckedLine, SaysCheck};
@@ -52,9 +51,8 @@ fn judged_said<S: Store>(
     ensures missing { OnOk result (IsNamedBy name.now block.now → IsClean (S.Store.view store.new)
         → HoldsOnly (S.Store.view store.old) name.now block.now
         → AddsUnlistedLinks (S.Store.view store.old) name.now missing.old missing.new) }
-    ensures same { OnOk result (StaysSame S.Store store.old store.new) }
     ensures fault { IfErr result (StoreFails S.Store store.old store.new) }
-    ensures quiet { Quiet S.Store store.old store.new }
+    ensures reads { JustReads S.Store result store.old store.new }
 {
     let verdict = verdict_on(name.codec(), block);
     if is_linked(&verdict) {
@@ -77,9 +75,8 @@ fn checked_said<S: Store>(
     ensures missing { OnOk result (IsClean (S.Store.view store.new)
         → ListsName (S.Store.view store.old) name.now
         → AddsUnlistedLinks (S.Store.view store.old) name.now missing.old missing.new) }
-    ensures same { OnOk result (StaysSame S.Store store.old store.new) }
     ensures fault { IfErr result (StoreFails S.Store store.old store.new) }
-    ensures quiet { Quiet S.Store store.old store.new }
+    ensures reads { JustReads S.Store result store.old store.new }
 {
     match store.get_block(name) {
         Ok(Some(block)) => judged_said(alloc, store, name, &block, missing),
@@ -102,9 +99,8 @@ fn check_next<S: Store, W: Write>(
         (S.Store.view store.new) (W.contents output.new) }
     ensures missing { IfOk result (λ next. IsClean (S.Store.view store.new)
         → AddsOfNext (S.Store.view store.old) next missing.old missing.new) }
-    ensures same { OnOk result (StaysSame S.Store store.old store.new) }
     ensures fault { IfErr result (StoreFails S.Store store.old store.new) }
-    ensures quiet { Quiet S.Store store.old store.new }
+    ensures reads { JustReads S.Store result store.old store.new }
 {
     let Some(name) = store.next_name(last)? else {
         return Ok(None);
@@ -128,9 +124,8 @@ fn check_names<S: Store, W: Write, E: Write>(
         (S.Store.view store.new) (W.contents output.new) }
     ensures missing { OnOk result (IsClean (S.Store.view store.new)
         → IsMissing (S.Store.view store.old) missing.new) }
-    ensures same { OnOk result (StaysSame S.Store store.old store.new) }
     ensures fault { IfErr result (StoreFails S.Store store.old store.new) }
-    ensures quiet { Quiet S.Store store.old store.new }
+    ensures reads { JustReads S.Store result store.old store.new }
 {
     let mut well = true;
     let mut last = None;
@@ -170,9 +165,8 @@ pub fn check_blocks<S: Store, W: Write, E: Write>(
 ) -> Result<bool, Fault>
     ensures says { SaysCheck (S.Store.view store.old) (W.contents output.old) result
         (S.Store.view store.new) (W.contents output.new) }
-    ensures same { OnOk result (StaysSame S.Store store.old store.new) }
     ensures fault { IfErr result (StoreFails S.Store store.old store.new) }
-    ensures quiet { Quiet S.Store store.old store.new }
+    ensures reads { JustReads S.Store result store.old store.new }
 {
     let mut missing = BTreeSet::new(alloc);
     let all_sound = check_names(alloc, store, &mut missing, output, progress)?;

@@ -1,14 +1,13 @@
 //! `ls`: what is under a path of names, read from a store.
 
-ghost use Rattle.std.specs.Prelude.{◌≡◌, List, ℕ, IfOk, OnOk, IfErr};
+ghost use Rattle.std.specs.Prelude.{◌≡◌, List, ℕ, IfOk, IfErr};
 ghost use Rattle.ipld_paths.specs.Paths.{segments};
 ghost use Rattle.dag_pb.specs.Node.{NodeParts, IsNode};
 ghost use Rattle.dag_pb.specs.Reads.{link_of};
 ghost use Rattle.files_unix_fs.specs.Reading.{HasRow};
 ghost use Rattle.program_parts.specs.Lines.{IsSaidOfEach};
 ghost use Rattle.program_parts.specs.Entries.{AreWordsOf, KnowsWords, IsEntry, IsListingUnder, IsListing};
-ghost use Rattle.store_on_disk.specs.Ends.{Quiet};
-ghost use Rattle.store_on_disk.specs.Stored.{StaysSame};
+ghost use Rattle.store_on_disk.specs.Stored.{JustReads};
 ghost use Rattle.program_dagstore.specs.Blocks.{GetFails};
 ghost use Rattle.program_dagstore.specs.Contents.{OfGot, FailsAt};
 ghost use Rattle.program_dagstore.specs.Directories.{IsLinked, IsOfEntries, IsOfListing};
@@ -38,9 +37,8 @@ fn words_got<S: Store>(
     ensures says { IfOk result (λ p. OfGot (S.Store.view store.old) (S.Store.view store.new)
         (λ stored. KnowsWords stored known.old → KnowsWords stored known.new
         × AreWordsOf stored cid.now p.1 p.0.items)) }
-    ensures same { OnOk result (StaysSame S.Store store.old store.new) }
     ensures fault { IfErr result (GetFails S.Store cid.now store.old store.new) }
-    ensures quiet { Quiet S.Store store.old store.new }
+    ensures reads { JustReads S.Store result store.old store.new }
 {
     if let Some(said) = known_words(alloc, cid, known)? {
         return Ok(said);
@@ -61,9 +59,8 @@ fn entry_got<S: Store>(
     ensures says { IfOk result (λ p. OfGot (S.Store.view store.old) (S.Store.view store.new)
         (λ stored. KnowsWords stored known.old → KnowsWords stored known.new
         × IsEntry stored (link_of link.now) p.1 p.0.items)) }
-    ensures same { OnOk result (StaysSame S.Store store.old store.new) }
     ensures fault { IfErr result (GetFails S.Store (link_of link.now).hash store.old store.new) }
-    ensures quiet { Quiet S.Store store.old store.new }
+    ensures reads { JustReads S.Store result store.old store.new }
 {
     let (words, has_kind) = words_got(alloc, store, &link.hash, known)?;
     let line = entry_line(alloc, &words, link)?;
@@ -81,10 +78,9 @@ fn entries_got<S: Store>(
     ensures says { (node : NodeParts) → IsNode block.now node → IfOk result
         (λ p. OfGot (S.Store.view store.old) (S.Store.view store.new)
         (λ stored. IsSaidOfEach (IsEntry stored) node.links p.1 p.0.items)) }
-    ensures same { OnOk result (StaysSame S.Store store.old store.new) }
     ensures fault { (node : NodeParts) → IsNode block.now node
         → IfErr result (FailsAt S.Store (IsLinked node.links) store.old store.new) }
-    ensures quiet { Quiet S.Store store.old store.new }
+    ensures reads { JustReads S.Store result store.old store.new }
 {
     let mut known = BTreeMap::new(alloc);
     let mut lines = Vec::new(alloc);
@@ -108,9 +104,8 @@ fn listing_under<S: Store>(
 ) -> Result<Answer, Fault>
     ensures says { IfOk result (λ p. OfGot (S.Store.view store.old) (S.Store.view store.new)
         (λ stored. IsListingUnder stored cid.now p.0.1 p.0.0.items p.1.items)) }
-    ensures same { OnOk result (StaysSame S.Store store.old store.new) }
     ensures fault { IfErr result (FailsAt S.Store (IsOfEntries cid.now) store.old store.new) }
-    ensures quiet { Quiet S.Store store.old store.new }
+    ensures reads { JustReads S.Store result store.old store.new }
 {
     let got = store.get_block(cid)?;
     match listed_stored(alloc, cid, bytes_got(&got)) {
@@ -132,10 +127,9 @@ fn listing<S: Store>(
 ) -> Result<Answer, Fault>
     ensures says { IfOk result (λ p. OfGot (S.Store.view store.old) (S.Store.view store.new)
         (λ stored. IsListing stored root.now (segments path.now) p.0.1 p.0.0.items p.1.items)) }
-    ensures same { OnOk result (StaysSame S.Store store.old store.new) }
     ensures fault { IfErr result
         (FailsAt S.Store (IsOfListing root.now (segments path.now)) store.old store.new) }
-    ensures quiet { Quiet S.Store store.old store.new }
+    ensures reads { JustReads S.Store result store.old store.new }
 {
     match find_file(store, root, path) {
         Ok(Ok(found)) => listing_under(alloc, store, &found),
@@ -163,10 +157,9 @@ pub fn write_listing<S: Store, W: Write, V: Write>(
     ensures says { OfGot (S.Store.view store.old) (S.Store.view store.new)
         (λ stored. SaysAll (IsListing stored root.now (segments path.now)) (W.contents output.old)
         (V.contents errors.old) result (W.contents output.new) (V.contents errors.new)) }
-    ensures same { OnOk result (StaysSame S.Store store.old store.new) }
     ensures fault { IfErr result
         (FailsAt S.Store (IsOfListing root.now (segments path.now)) store.old store.new) }
-    ensures quiet { Quiet S.Store store.old store.new }
+    ensures reads { JustReads S.Store result store.old store.new }
 {
     match listing(alloc, store, root, path) {
         Ok((said, told)) => {

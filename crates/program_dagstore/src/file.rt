@@ -1,14 +1,13 @@
 //! `cat`: the bytes of an IPFS file, read from a store.
 
-ghost use Rattle.std.specs.Prelude.{◌≡◌, [], false, List, option_map, map, MatchResult, IfOk, OnOk, IfErr};
+ghost use Rattle.std.specs.Prelude.{◌≡◌, [], false, List, option_map, map, MatchResult, IfOk, IfErr};
 ghost use Rattle.ipld_paths.specs.Paths.{segments};
 ghost use Rattle.files_unix_fs.specs.Reading.{Asked, asked};
 ghost use Rattle.program_parts.specs.Lines.{SaysBoth};
 ghost use Rattle.program_parts.specs.Content.{IsNextName, SaysContent, SaysNext};
 ghost use Rattle.program_parts.specs.FileNames.{HasEntry, NamesNothing, LeadsByNames, EndsByNames};
 ghost use Rattle.program_parts.specs.FileNames.{names_line};
-ghost use Rattle.store_on_disk.specs.Ends.{Quiet};
-ghost use Rattle.store_on_disk.specs.Stored.{StaysSame};
+ghost use Rattle.store_on_disk.specs.Stored.{JustReads};
 ghost use Rattle.program_dagstore.specs.Blocks.{GetFails};
 ghost use Rattle.program_dagstore.specs.Contents.{OfGot, SaysFile, IsOnTheWay, IsWantedIn};
 ghost use Rattle.program_dagstore.specs.Contents.{IsOfFile, FailsAt, FailsAtNext};
@@ -44,9 +43,8 @@ fn find_entry<S: Store>(
     ensures found { IfOk result (λ entry. OfGot (S.Store.view store.old) (S.Store.view store.new)
         (λ stored. MatchResult entry (HasEntry stored block.now name.now)
         (NamesNothing stored block.now name.now))) }
-    ensures same { OnOk result (StaysSame S.Store store.old store.new) }
     ensures fault { IfErr result (GetFails S.Store block.now store.old store.new) }
-    ensures quiet { Quiet S.Store store.old store.new }
+    ensures reads { JustReads S.Store result store.old store.new }
 {
     let got = store.get_block(block)?;
     Ok(entry_stored(block, bytes_got(&got), name))
@@ -61,10 +59,9 @@ pub fn find_file<'p, S: Store>(
     ensures found { IfOk result (λ found. OfGot (S.Store.view store.old) (S.Store.view store.new)
         (λ stored. MatchResult found (LeadsByNames stored root.now (segments path.now))
         (EndsByNames stored root.now (segments path.now)))) }
-    ensures same { OnOk result (StaysSame S.Store store.old store.new) }
     ensures fault { IfErr result
         (FailsAt S.Store (IsOnTheWay root.now (segments path.now)) store.old store.new) }
-    ensures quiet { Quiet S.Store store.old store.new }
+    ensures reads { JustReads S.Store result store.old store.new }
 {
     let mut block = *root;
     let mut left = path;
@@ -96,9 +93,8 @@ fn write_block<S: Store, W: Write, V: Write>(
         (λ stored. SaysNext stored (map asked reader.old.wanted.items)
         (map asked reader.new.wanted.items) (W.contents output.old) (V.contents errors.old) result
         (W.contents output.new) (V.contents errors.new)) }
-    ensures same { OnOk result (StaysSame S.Store store.old store.new) }
     ensures fault { IfErr result (GetFails S.Store name.now store.old store.new) }
-    ensures quiet { Quiet S.Store store.old store.new }
+    ensures reads { JustReads S.Store result store.old store.new }
 {
     let got = store.get_block(name)?;
     let well = say_block(alloc, reader, name, bytes_got(&got), output, errors)?;
@@ -118,10 +114,9 @@ fn write_next<S: Store, W: Write, V: Write>(
         (λ stored. SaysNext stored (map asked reader.old.wanted.items)
         (map asked reader.new.wanted.items) (W.contents output.old) (V.contents errors.old) result
         (W.contents output.new) (V.contents errors.new)) }
-    ensures same { OnOk result (StaysSame S.Store store.old store.new) }
     ensures fault { IfErr result (FailsAtNext S.Store (map asked reader.old.wanted.items) store.old
         store.new) }
-    ensures quiet { Quiet S.Store store.old store.new }
+    ensures reads { JustReads S.Store result store.old store.new }
 {
     let Some(wanted) = reader.next_wanted() else {
         return Ok(Some(true));
@@ -144,9 +139,8 @@ fn write_content<S: Store, W: Write, V: Write>(
     ensures says { OfGot (S.Store.view store.old) (S.Store.view store.new)
         (λ stored. SaysContent stored root.now (W.contents output.old) (V.contents errors.old) result
         (W.contents output.new) (V.contents errors.new)) }
-    ensures same { OnOk result (StaysSame S.Store store.old store.new) }
     ensures fault { IfErr result (FailsAt S.Store (IsWantedIn root.now) store.old store.new) }
-    ensures quiet { Quiet S.Store store.old store.new }
+    ensures reads { JustReads S.Store result store.old store.new }
 {
     let mut reader = begin_content(alloc, root)?;
     for _count in 0..u64::MAX {
@@ -186,10 +180,9 @@ pub fn write_file<S: Store, W: Write, V: Write>(
     ensures says { OfGot (S.Store.view store.old) (S.Store.view store.new)
         (λ stored. SaysFile stored root.now (segments path.now) (W.contents output.old)
         (V.contents errors.old) result (W.contents output.new) (V.contents errors.new)) }
-    ensures same { OnOk result (StaysSame S.Store store.old store.new) }
     ensures fault { IfErr result
         (FailsAt S.Store (IsOfFile root.now (segments path.now)) store.old store.new) }
-    ensures quiet { Quiet S.Store store.old store.new }
+    ensures reads { JustReads S.Store result store.old store.new }
 {
     match find_file(store, root, path) {
         Ok(Ok(found)) => write_content(alloc, store, &found, output, errors),

@@ -3,7 +3,7 @@
 ghost use Rattle.std.specs.Prelude.{◌≡◌, [], ◌∷◌, ◌++◌, List, OnOk, IfOk, IfErr, MatchBool};
 ghost use Rattle.sqlite_trees.specs.View.{IsClean};
 ghost use Rattle.store_on_disk.specs.Ends.{Quiet};
-ghost use Rattle.store_on_disk.specs.Stored.{StaysSame, FailsByStore};
+ghost use Rattle.store_on_disk.specs.Stored.{JustReads, FailsByStore};
 ghost use Rattle.store_on_disk.specs.Collecting.{HasBlockAt};
 ghost use Rattle.program_dagstore.specs.Said.{StoreFails};
 ghost use Rattle.program_dagstore.specs.Lacking.{AddsLacking, ListsLacking, LeavesStored};
@@ -24,9 +24,8 @@ fn has_block_at<S: Store>(store: &mut BlockStore<S>, name: &Cid) -> Result<bool,
     ensures has { IfOk result (λ has. IsClean (S.Store.view store.new)
         → MatchBool has (HasBlockAt (S.Store.view store.old) name.now)
         (¬ HasBlockAt (S.Store.view store.old) name.now)) }
-    ensures same { OnOk result (StaysSame S.Store store.old store.new) }
     ensures refused { IfErr result (FailsByStore S.Store ⊥ store.old store.new) }
-    ensures quiet { Quiet S.Store store.old store.new }
+    ensures reads { JustReads S.Store result store.old store.new }
 {
     if name.hash_code() == IDENTITY {
         return Ok(true);
@@ -50,9 +49,8 @@ fn add_if_lacking<S: Store>(
 ) -> Result<(), Fault>
     ensures added { OnOk result (IsClean (S.Store.view store.new)
         → AddsLacking (S.Store.view store.old) name.now lacking.old.items lacking.new.items) }
-    ensures same { OnOk result (StaysSame S.Store store.old store.new) }
     ensures fault { IfErr result (StoreFails S.Store store.old store.new) }
-    ensures quiet { Quiet S.Store store.old store.new }
+    ensures reads { JustReads S.Store result store.old store.new }
 {
     let has = has_block_at(store, name)?;
     if has {
@@ -70,9 +68,8 @@ fn lacking_of<S: Store>(
 ) -> Result<Vec<Cid>, Fault>
     ensures left { IfOk result (λ v. IsClean (S.Store.view store.new)
         → LeavesStored (S.Store.view store.old) names.now v.items) }
-    ensures same { OnOk result (StaysSame S.Store store.old store.new) }
     ensures fault { IfErr result (StoreFails S.Store store.old store.new) }
-    ensures quiet { Quiet S.Store store.old store.new }
+    ensures reads { JustReads S.Store result store.old store.new }
 {
     let mut lacking = Vec::new(alloc);
     for name in names {
@@ -85,9 +82,8 @@ fn lacking_of<S: Store>(
 fn lacking_roots<S: Store>(alloc: Global, store: &mut BlockStore<S>) -> Result<Vec<Cid>, Fault>
     ensures lists { IfOk result (λ v. IsClean (S.Store.view store.new)
         → ListsLacking (S.Store.view store.old) v.items) }
-    ensures same { OnOk result (StaysSame S.Store store.old store.new) }
     ensures fault { IfErr result (StoreFails S.Store store.old store.new) }
-    ensures quiet { Quiet S.Store store.old store.new }
+    ensures reads { JustReads S.Store result store.old store.new }
 {
     let names = store.roots()?;
     lacking_of(alloc, store, &names)
@@ -101,9 +97,8 @@ fn check_roots<S: Store, W: Write>(
 ) -> Result<bool, Fault>
     ensures says { SaysLacking (S.Store.view store.old) (W.contents output.old) result
         (S.Store.view store.new) (W.contents output.new) }
-    ensures same { OnOk result (StaysSame S.Store store.old store.new) }
     ensures fault { IfErr result (StoreFails S.Store store.old store.new) }
-    ensures quiet { Quiet S.Store store.old store.new }
+    ensures reads { JustReads S.Store result store.old store.new }
 {
     let lacking = lacking_roots(alloc, store)?;
     let lines = missing_lines(alloc, &lacking)?;

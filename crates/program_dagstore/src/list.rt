@@ -1,9 +1,8 @@
 //! `list`: each name, and the length of the block under it.
 
-ghost use Rattle.std.specs.Prelude.{OnOk, IfOk, IfErr};
+ghost use Rattle.std.specs.Prelude.{IfOk, IfErr};
 ghost use Rattle.sqlite_trees.specs.View.{IsClean};
-ghost use Rattle.store_on_disk.specs.Ends.{Quiet};
-ghost use Rattle.store_on_disk.specs.Stored.{StaysSame, ListsName};
+ghost use Rattle.store_on_disk.specs.Stored.{JustReads, ListsName};
 ghost use Rattle.program_dagstore.specs.Said.{StoreFails};
 ghost use Rattle.program_dagstore.specs.Names.{IsListedLine, SaysNames, SaysNext};
 
@@ -25,9 +24,8 @@ fn listed_said<S: Store>(
     ensures said { IfOk result
         (λ p. (IsClean (S.Store.view store.new) → ListsName (S.Store.view store.old) name.now)
         → IsListedLine (S.Store.view store.old) (S.Store.view store.new) name.now p.1 p.0.items) }
-    ensures same { OnOk result (StaysSame S.Store store.old store.new) }
     ensures fault { IfErr result (StoreFails S.Store store.old store.new) }
-    ensures quiet { Quiet S.Store store.old store.new }
+    ensures reads { JustReads S.Store result store.old store.new }
 {
     match store.get_block(name) {
         Ok(Some(block)) => {
@@ -50,9 +48,8 @@ fn list_next<S: Store, W: Write>(
 ) -> Result<Option<(Cid, bool)>, Fault>
     ensures says { SaysNext IsListedLine (S.Store.view store.old) last (W.contents output.old) result
         (S.Store.view store.new) (W.contents output.new) }
-    ensures same { OnOk result (StaysSame S.Store store.old store.new) }
     ensures fault { IfErr result (StoreFails S.Store store.old store.new) }
-    ensures quiet { Quiet S.Store store.old store.new }
+    ensures reads { JustReads S.Store result store.old store.new }
 {
     let Some(name) = store.next_name(last)? else {
         return Ok(None);
@@ -70,9 +67,8 @@ pub fn list_blocks<S: Store, W: Write>(
 ) -> Result<bool, Fault>
     ensures says { SaysNames IsListedLine (S.Store.view store.old) (W.contents output.old) result
         (S.Store.view store.new) (W.contents output.new) }
-    ensures same { OnOk result (StaysSame S.Store store.old store.new) }
     ensures fault { IfErr result (StoreFails S.Store store.old store.new) }
-    ensures quiet { Quiet S.Store store.old store.new }
+    ensures reads { JustReads S.Store result store.old store.new }
 {
     let mut well = true;
     let mut last = None;

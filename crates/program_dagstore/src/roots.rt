@@ -4,7 +4,7 @@
 ghost use Rattle.std.specs.Prelude.{◌⊎◌, IfOk, OnOk, IfErr};
 ghost use Rattle.sqlite_trees.specs.View.{IsClean};
 ghost use Rattle.store_on_disk.specs.Ends.{Quiet};
-ghost use Rattle.store_on_disk.specs.Stored.{IsKeptBy, StaysSame, FailsByStore};
+ghost use Rattle.store_on_disk.specs.Stored.{IsKeptBy, JustReads, FailsByStore};
 ghost use Rattle.ipld_links.specs.Reaching.{NoneTwice};
 ghost use Rattle.program_dagstore.specs.Changes.{Changes};
 ghost use Rattle.program_dagstore.specs.Roots.{SaysRoots, AreMeant, RootsUnread, HasAddedRoots};
@@ -32,9 +32,8 @@ pub fn list_roots<S: Store, W: Write>(
 ) -> Result<bool, Fault>
     ensures says { SaysRoots (S.Store.view store.old) (W.contents output.old) result
         (S.Store.view store.new) (W.contents output.new) }
-    ensures same { OnOk result (StaysSame S.Store store.old store.new) }
     ensures fault { IfErr result (StoreFails S.Store store.old store.new) }
-    ensures quiet { Quiet S.Store store.old store.new }
+    ensures reads { JustReads S.Store result store.old store.new }
 {
     let names = store.roots()?;
     let lines = lines_of(alloc, &names, b"")?;
@@ -49,9 +48,8 @@ pub fn meant_roots<S: Store>(
 ) -> Result<Vec<Cid>, StoreRefusal>
     ensures ok { IfOk result (λ roots. AreMeant (S.Store.view store.old) (S.Store.view store.new)
         given.items roots.items) }
-    ensures same { OnOk result (StaysSame S.Store store.old store.new) }
     ensures refused { IfErr result (RootsUnread S.Store given.items store.old store.new) }
-    ensures quiet { Quiet S.Store store.old store.new }
+    ensures reads { JustReads S.Store result store.old store.new }
 {
     if given.is_empty() {
         store.roots()

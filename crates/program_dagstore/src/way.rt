@@ -4,8 +4,7 @@ ghost use Rattle.std.specs.Prelude.{IfOk, OnOk, IfErr};
 ghost use Rattle.sqlite_trees.specs.View.{IsClean};
 ghost use Rattle.ipld_paths.specs.Paths.{segments};
 ghost use Rattle.ipld_links.specs.Reaching.{stored_in};
-ghost use Rattle.store_on_disk.specs.Ends.{Quiet};
-ghost use Rattle.store_on_disk.specs.Stored.{StaysSame};
+ghost use Rattle.store_on_disk.specs.Stored.{JustReads};
 ghost use Rattle.program_dagstore.specs.Blocks.{GetFails};
 ghost use Rattle.program_dagstore.specs.Ways.{HoldsNameToo, HoldsWay, WayFails};
 
@@ -26,9 +25,8 @@ fn hold<S: Store>(
 ) -> Result<(), Fault>
     ensures held { OnOk result (IsClean (S.Store.view store.new)
         → HoldsNameToo (S.Store.view store.old) name.now (stored_in held.old) (stored_in held.new)) }
-    ensures same { OnOk result (StaysSame S.Store store.old store.new) }
     ensures fault { IfErr result (GetFails S.Store name.now store.old store.new) }
-    ensures quiet { Quiet S.Store store.old store.new }
+    ensures reads { JustReads S.Store result store.old store.new }
 {
     let Some(block) = store.get_block(name)? else {
         return Ok(());
@@ -49,9 +47,8 @@ pub fn gather_way<S: Store>(
 ) -> Result<BTreeMap<Cid, Vec<u8>>, Fault>
     ensures held { IfOk result (λ held. IsClean (S.Store.view store.new)
         → HoldsWay (S.Store.view store.old) root.now (segments path.now) (stored_in held)) }
-    ensures same { OnOk result (StaysSame S.Store store.old store.new) }
     ensures fault { IfErr result (WayFails S.Store root.now (segments path.now) store.old store.new) }
-    ensures quiet { Quiet S.Store store.old store.new }
+    ensures reads { JustReads S.Store result store.old store.new }
 {
     let mut held = BTreeMap::new(alloc);
     let mut block = *root;

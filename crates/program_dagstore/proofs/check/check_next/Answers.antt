@@ -12,22 +12,22 @@ returns-in_err-well-clause-says g c =
     let old = g.S.Store.view c.args.store.now in
     let mid = g.S.Store.view c.next_name.new.self in
     let new = g.S.Store.view c.checked_said.new.store in
-    let was : IsClean new → IsClean mid = λ clean. omega (arith, c.checked_said.ensures.quiet.clean) in
+    let was : IsClean new → IsClean mid = λ clean. omega (arith, c.checked_said.ensures.reads.quiet.clean) in
     let p = err_from_is_err_and c.from_residual-in_err-well.result c.from_residual-in_err-well.ensures.1 in
     let next = rw c.in-Some.is at c.in_ok-name.ensures.next in
     rw (p.1, p.2) (line_broken IsCheckedLine old new c.args.last c.in-Some.name c.in_ok-said.said.1 c.in_ok-said.said.0.items _ _ c.in_err-well.field-0.0 (λ clean. next (was clean))
-    (said_of_next IsCheckedLine old mid new c.args.last c.in-Some.name c.in_ok-said.said.1 c.in_ok-said.said.0.items checked_stays was c.in_ok-name.ensures.same next c.in_ok-said.ensures.said) c.in_err-well.ensures)
+    (said_of_next IsCheckedLine old mid new c.args.last c.in-Some.name c.in_ok-said.said.1 c.in_ok-said.said.0.items checked_stays was c.in_ok-name.ensures.reads.same next c.in_ok-said.ensures.said) c.in_err-well.ensures)
 
 pub returns-clause-says : goal.returns-clause-says
 returns-clause-says g c =
     let old = g.S.Store.view c.args.store.now in
     let mid = g.S.Store.view c.next_name.new.self in
     let new = g.S.Store.view c.checked_said.new.store in
-    let was : IsClean new → IsClean mid = λ clean. omega (arith, c.checked_said.ensures.quiet.clean) in
+    let was : IsClean new → IsClean mid = λ clean. omega (arith, c.checked_said.ensures.reads.quiet.clean) in
     let next = rw c.in-Some.is at c.in_ok-name.ensures.next in (
       c.in_ok-said.said.0.items,
       subst (λ w. IsCheckedLine old new c.in-Some.name w c.in_ok-said.said.0.items) (sym c.in_ok-well.ensures.0)
-          (said_of_next IsCheckedLine old mid new c.args.last c.in-Some.name c.in_ok-said.said.1 c.in_ok-said.said.0.items checked_stays was c.in_ok-name.ensures.same next c.in_ok-said.ensures.said),
+          (said_of_next IsCheckedLine old mid new c.args.last c.in-Some.name c.in_ok-said.said.1 c.in_ok-said.said.0.items checked_stays was c.in_ok-name.ensures.reads.same next c.in_ok-said.ensures.said),
       (λ clean. next (was clean)),
       c.in_ok-well.ensures.1,
     )
@@ -36,8 +36,8 @@ pub returns-clause-missing : goal.returns-clause-missing
 returns-clause-missing g c =
     let mid = g.S.Store.view c.next_name.new.self in
     let new = g.S.Store.view c.checked_said.new.store in
-    let was : IsClean new → IsClean mid = λ clean. omega (arith, c.checked_said.ensures.quiet.clean) in
-    next_missing (g.S.Store.view c.args.store.now) mid new c.args.last c.in-Some.name c.args.missing.now c.checked_said.new.missing was c.in_ok-name.ensures.same (rw c.in-Some.is at c.in_ok-name.ensures.next) c.in_ok-said.ensures.missing
+    let was : IsClean new → IsClean mid = λ clean. omega (arith, c.checked_said.ensures.reads.quiet.clean) in
+    next_missing (g.S.Store.view c.args.store.now) mid new c.args.last c.in-Some.name c.args.missing.now c.checked_said.new.missing was c.in_ok-name.ensures.reads.same (rw c.in-Some.is at c.in_ok-name.ensures.next) c.in_ok-said.ensures.missing
 
 pub returns-in_err-said-clause-says : goal.returns-in_err-said-clause-says
 returns-in_err-said-clause-says g c =

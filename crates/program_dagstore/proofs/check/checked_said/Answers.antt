@@ -7,16 +7,16 @@ pub returns-in-Ok-Some-clause-said : goal.returns-in-Ok-Some-clause-said
 returns-in-Ok-Some-clause-said g c =
     let mid = g.S.Store.view c.get_block.new.self in
     let new = g.S.Store.view c.judged_said.new.store in
-    let was : IsClean new → IsClean mid = λ clean. omega (arith, c.judged_said.ensures.quiet.clean) in
-    judged_checked (g.S.Store.view c.args.store.now) mid new c.args.name.now c.in-Ok-Some.block.items c.deref.result.now c.judged_said.result c.deref.ensures.value (rw c.in-Ok-Some.field-0-is at c.in-Ok-Some.ensures.verified) was c.in-Ok-Some.ensures.same
+    let was : IsClean new → IsClean mid = λ clean. omega (arith, c.judged_said.ensures.reads.quiet.clean) in
+    judged_checked (g.S.Store.view c.args.store.now) mid new c.args.name.now c.in-Ok-Some.block.items c.deref.result.now c.judged_said.result c.deref.ensures.value (rw c.in-Ok-Some.field-0-is at c.in-Ok-Some.ensures.verified) was c.in-Ok-Some.ensures.reads.same
     (rw c.in-Ok-Some.field-0-is at c.in-Ok-Some.ensures.found) c.judged_said.ensures.said
 
 pub returns-in-Ok-Some-clause-missing : goal.returns-in-Ok-Some-clause-missing
 returns-in-Ok-Some-clause-missing g c =
     let mid = g.S.Store.view c.get_block.new.self in
     let new = g.S.Store.view c.judged_said.new.store in
-    let was : IsClean new → IsClean mid = λ clean. omega (arith, c.judged_said.ensures.quiet.clean) in
-    judged_missing (g.S.Store.view c.args.store.now) mid new c.args.name.now c.in-Ok-Some.block.items c.deref.result.now c.args.missing.now c.judged_said.new.missing c.judged_said.result c.deref.ensures.value (rw c.in-Ok-Some.field-0-is at c.in-Ok-Some.ensures.verified) was c.in-Ok-Some.ensures.same
+    let was : IsClean new → IsClean mid = λ clean. omega (arith, c.judged_said.ensures.reads.quiet.clean) in
+    judged_missing (g.S.Store.view c.args.store.now) mid new c.args.name.now c.in-Ok-Some.block.items c.deref.result.now c.args.missing.now c.judged_said.new.missing c.judged_said.result c.deref.ensures.value (rw c.in-Ok-Some.field-0-is at c.in-Ok-Some.ensures.verified) was c.in-Ok-Some.ensures.reads.same
     (rw c.in-Ok-Some.field-0-is at c.in-Ok-Some.ensures.found) c.judged_said.ensures.missing
 
 pub returns-in_ok-damaged_said-in-Ok-None-clause-said : goal.returns-in_ok-damaged_said-in-Ok-None-clause-said

@@ -36,13 +36,13 @@ loop-link-preserved g c =
     let lines : c.extend_from_slice.new.self.items ≡ c.loop-link.lines.items ++ line = c.in_ok-extend_from_slice.ensures.items ∙ ap (λ x. c.loop-link.lines.items ++ x) c.deref.ensures.value in
     let row = c.in-Some.ensures.link c.loop-link.invariant.0.0 c.loop-link.invariant.0.1 in (
       (row.0, row.1),
-      quiet_then g.S.Store c.args.store.now c.loop-link.store c.entry_got.new.store c.loop-link.invariant.1 c.entry_got.ensures.quiet,
-      λ clean. same_then old mid new (c.loop-link.invariant.2 (omega (arith, c.entry_got.ensures.quiet.clean))) (c.in_ok-line.ensures.same clean),
+      quiet_then g.S.Store c.args.store.now c.loop-link.store c.entry_got.new.store c.loop-link.invariant.1 c.entry_got.ensures.reads.quiet,
+      λ clean. same_then old mid new (c.loop-link.invariant.2 (omega (arith, c.entry_got.ensures.reads.quiet.clean))) (c.in_ok-line.ensures.reads.same clean),
       got_on g.S.Store c.args.store.now c.loop-link.store c.entry_got.new.store
           (λ stored. KnowsWords stored c.loop-link.known × IsListedTo stored block c.loop-link.links.now c.loop-link.well c.loop-link.lines.items)
           (λ stored. KnowsWords stored c.loop-link.known → KnowsWords stored c.entry_got.new.known × IsEntry stored link kind line)
           (λ stored. KnowsWords stored c.entry_got.new.known × IsListedTo stored block c.in-Some.more.now c.if-well.well c.extend_from_slice.new.self.items)
-          c.loop-link.invariant.2 c.entry_got.ensures.quiet c.loop-link.invariant.3 c.in_ok-line.ensures.says
+          c.loop-link.invariant.2 c.entry_got.ensures.reads.quiet c.loop-link.invariant.3 c.in_ok-line.ensures.says
           (λ stored h f.
           let k = f h.0 in
           let listed = one_listed stored block c.loop-link.links.now c.in-Some.more.now link c.loop-link.well kind c.loop-link.lines.items line h.1 c.in-Some.ensures.link k.1 in
@@ -55,7 +55,7 @@ returns-in_err-line-clause-fault g c = λ node is.
     let block = c.args.block.now in
     let link = link_of c.in-Some.link in
     rw (p.1, p.2) (fails_at g.S.Store c.args.store.now c.loop-link.store c.entry_got.new.store link.hash (IsLinked node.links) c.in_err-line.field-0.0
-    c.loop-link.invariant.1 c.loop-link.invariant.2 c.entry_got.ensures.quiet
+    c.loop-link.invariant.1 c.loop-link.invariant.2 c.entry_got.ensures.reads.quiet
     (λ clean stored shows.
     let h = got_stored_so g.S.Store c.args.store.now c.loop-link.store (λ s. KnowsWords s c.loop-link.known × IsListedTo s block c.loop-link.links.now c.loop-link.well c.loop-link.lines.items) c.loop-link.invariant.3 clean stored shows in
     linked stored block c.loop-link.links.now c.in-Some.more.now link c.loop-link.well c.loop-link.lines.items node is h.1 c.in-Some.ensures.link)

@@ -19,7 +19,7 @@ returns-in-Ok-Ok-clause-says g c =
     if_ok_map (λ p. OfGot (g.S.Store.view mid) (g.S.Store.view new) (λ stored. IsListingUnder stored found p.0.1 p.0.0.items p.1.items)) (λ p. OfGot (g.S.Store.view old) (g.S.Store.view new) (λ stored. IsListing stored root path p.0.1 p.0.0.items p.1.items)) c.listing_under.result
     (λ p said.
     got_on g.S.Store old mid new (λ stored. LeadsByNames stored root path found) (λ stored. IsListingUnder stored found p.0.1 p.0.0.items p.1.items) (λ stored. IsListing stored root path p.0.1 p.0.0.items p.1.items)
-    c.in-Ok-Ok.ensures.same c.listing_under.ensures.quiet (rw c.in-Ok-Ok.field-0-is at c.in-Ok-Ok.ensures.found) said
+    c.in-Ok-Ok.ensures.reads.same c.listing_under.ensures.reads.quiet (rw c.in-Ok-Ok.field-0-is at c.in-Ok-Ok.ensures.found) said
     (λ stored leads under. inl (found, leads, under)))
     c.listing_under.ensures.says
 
@@ -28,7 +28,7 @@ returns-in-Ok-Ok-clause-fault g c =
     let root = c.args.root.now in
     let path = segments c.args.path.now in
     let found = c.in-Ok-Ok.found in
-    fails_after g.S.Store c.args.store.now c.find_file.new.store c.listing_under.new.store (IsOfEntries found) (IsOfListing root path) c.listing_under.result c.find_file.ensures.quiet c.in-Ok-Ok.ensures.same c.listing_under.ensures.quiet
+    fails_after g.S.Store c.args.store.now c.find_file.new.store c.listing_under.new.store (IsOfEntries found) (IsOfListing root path) c.listing_under.result c.find_file.ensures.reads.quiet c.in-Ok-Ok.ensures.reads.same c.listing_under.ensures.reads.quiet
     (λ clean stored shows n at. inr (found, got_stored_so g.S.Store c.args.store.now c.find_file.new.store (λ s. LeadsByNames s root path found) (rw c.in-Ok-Ok.field-0-is at c.in-Ok-Ok.ensures.found) clean stored shows, at))
     c.listing_under.ensures.fault
 

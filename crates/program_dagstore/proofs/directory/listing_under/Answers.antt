@@ -38,7 +38,7 @@ returns-in-Ok-Entries-clause-says g c =
     let node = directory_node all cid block (rw c.in-Ok-Entries.field-0-is at here) in
     let said = c.in_ok-said-in-Ok-Entries.said in
     got_on g.S.Store c.args.store.now c.get_block.new.self c.entries_got.new.store (λ stored. IsEntityAt stored cid block Directory) (λ stored. IsSaidOfEach (IsEntry stored) node.0.links said.1 said.0.items) (λ stored. IsListingUnder stored cid said.1 said.0.items c.new.result.items)
-    c.in_ok-got.ensures.same c.entries_got.ensures.quiet
+    c.in_ok-got.ensures.reads.same c.entries_got.ensures.reads.quiet
     (got_one (g.S.Store.view c.args.store.now) (g.S.Store.view c.get_block.new.self) cid c.in_ok-got.got (λ stored. IsEntityAt stored cid block Directory)
     c.in_ok-got.ensures.verified c.in_ok-got.ensures.found
     (λ stored e.
@@ -53,7 +53,7 @@ returns-in_err-got-clause-fault g c =
     let cid = c.args.cid.now in
     let store = c.args.store.now in
     rw (p.1, p.2) (fails_at g.S.Store store store c.get_block.new.self cid (IsOfEntries cid) (fault.Store c.in_err-got.field-0.0)
-    (quiet_itself g.S.Store store) (λ clean. same_itself (g.S.Store.view store)) c.get_block.ensures.quiet (λ clean stored shows. inl refl) c.in_err-got.ensures.refused)
+    (quiet_itself g.S.Store store) (λ clean. same_itself (g.S.Store.view store)) c.get_block.ensures.reads.quiet (λ clean stored shows. inl refl) c.in_err-got.ensures.refused)
 
 pub returns-in_err-said-in-Ok-Entries-clause-fault : goal.returns-in_err-said-in-Ok-Entries-clause-fault
 returns-in_err-said-in-Ok-Entries-clause-fault g c =
@@ -69,6 +69,6 @@ returns-in_err-said-in-Ok-Entries-clause-fault g c =
     let listed : IsListed stored cid c.in-Ok-Entries.field-0 = c.in-Ok-Entries.ensures stored (e ∙ sym c.bytes_got.ensures) in
     rw c.in-Ok-Entries.field-0-is at listed) in
     rw (p.1, p.2) (fails_then g.S.Store c.args.store.now c.get_block.new.self c.entries_got.new.store (IsLinked node.0.links) (IsOfEntries cid) c.in_err-said-in-Ok-Entries.field-0.0
-    c.get_block.ensures.quiet c.in_ok-got.ensures.same c.entries_got.ensures.quiet
+    c.get_block.ensures.reads.quiet c.in_ok-got.ensures.reads.same c.entries_got.ensures.reads.quiet
     (λ clean stored shows n at. inr (block, got_stored_so g.S.Store c.args.store.now c.get_block.new.self (λ s. IsEntityAt s cid block Directory) got clean stored shows, (node.0, node.1, at)))
     (c.in_err-said-in-Ok-Entries.ensures.fault node.0 node.1))

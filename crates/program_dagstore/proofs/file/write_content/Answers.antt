@@ -31,21 +31,21 @@ returns-in_err-well-clause-says g c =
     let p = err_from_is_err_and c.from_residual-in_err-well.result c.from_residual-in_err-well.ensures.1 in
     let e = c.in_err-well.field-0.0 in
     rw p.1 (got_on g.S.Store c.args.store.now c.loop-count.store c.write_next.new.store (λ stored. HasSaid stored c.args.root.now (map asked c.loop-count.reader.wanted.items) (g.W.Write.contents c.args.output.now) (g.V.Write.contents c.args.errors.now) (g.W.Write.contents c.loop-count.output) (g.V.Write.contents c.loop-count.errors)) (λ stored. SaysNext stored (map asked c.loop-count.reader.wanted.items) (map asked c.write_next.new.reader.wanted.items) (g.W.Write.contents c.loop-count.output) (g.V.Write.contents c.loop-count.errors) (Err e) (g.W.Write.contents c.write_next.new.output) (g.V.Write.contents c.write_next.new.errors)) (λ stored. SaysContent stored c.args.root.now (g.W.Write.contents c.args.output.now) (g.V.Write.contents c.args.errors.now) (Err e) (g.W.Write.contents c.write_next.new.output) (g.V.Write.contents c.write_next.new.errors))
-    c.loop-count.invariant.1 c.write_next.ensures.quiet c.loop-count.invariant.2 c.in_err-well.ensures.says
+    c.loop-count.invariant.1 c.write_next.ensures.reads.quiet c.loop-count.invariant.2 c.in_err-well.ensures.says
     (λ stored h k. content_broken stored c.args.root.now (map asked c.loop-count.reader.wanted.items) (map asked c.write_next.new.reader.wanted.items) e (g.W.Write.contents c.args.output.now) (g.V.Write.contents c.args.errors.now) (g.W.Write.contents c.loop-count.output) (g.V.Write.contents c.loop-count.errors) (g.W.Write.contents c.write_next.new.output) (g.V.Write.contents c.write_next.new.errors) h k))
 
 pub returns-in_err-well-clause-fault : goal.returns-in_err-well-clause-fault
 returns-in_err-well-clause-fault g c =
     let p = err_from_is_err_and c.from_residual-in_err-well.result c.from_residual-in_err-well.ensures.1 in
     rw (p.1, p.2) (fails_wanted g.S.Store c.args.root.now (map asked c.loop-count.reader.wanted.items) c.args.store.now c.loop-count.store c.write_next.new.store c.in_err-well.field-0.0
-    c.loop-count.invariant.0 c.loop-count.invariant.1 c.write_next.ensures.quiet
+    c.loop-count.invariant.0 c.loop-count.invariant.1 c.write_next.ensures.reads.quiet
     (λ clean stored shows. let h = got_stored_so g.S.Store c.args.store.now c.loop-count.store (λ stored. HasSaid stored c.args.root.now (map asked c.loop-count.reader.wanted.items) (g.W.Write.contents c.args.output.now) (g.V.Write.contents c.args.errors.now) (g.W.Write.contents c.loop-count.output) (g.V.Write.contents c.loop-count.errors)) c.loop-count.invariant.2 clean stored shows in (h.0, h.1))
     c.in_err-well.ensures.fault)
 
 pub returns-in-Some-clause-says : goal.returns-in-Some-clause-says
 returns-in-Some-clause-says g c =
     got_on g.S.Store c.args.store.now c.loop-count.store c.write_next.new.store (λ stored. HasSaid stored c.args.root.now (map asked c.loop-count.reader.wanted.items) (g.W.Write.contents c.args.output.now) (g.V.Write.contents c.args.errors.now) (g.W.Write.contents c.loop-count.output) (g.V.Write.contents c.loop-count.errors)) (λ stored. SaysNext {E = Fault} stored (map asked c.loop-count.reader.wanted.items) (map asked c.write_next.new.reader.wanted.items) (g.W.Write.contents c.loop-count.output) (g.V.Write.contents c.loop-count.errors) (Ok (Some c.in-Some.well)) (g.W.Write.contents c.write_next.new.output) (g.V.Write.contents c.write_next.new.errors)) (λ stored. SaysContent {E = Fault} stored c.args.root.now (g.W.Write.contents c.args.output.now) (g.V.Write.contents c.args.errors.now) (Ok c.in-Some.well) (g.W.Write.contents c.write_next.new.output) (g.V.Write.contents c.write_next.new.errors))
-    c.loop-count.invariant.1 c.write_next.ensures.quiet c.loop-count.invariant.2 (rw c.in-Some.is at c.in_ok-well.ensures.says)
+    c.loop-count.invariant.1 c.write_next.ensures.reads.quiet c.loop-count.invariant.2 (rw c.in-Some.is at c.in_ok-well.ensures.says)
     (λ stored h k. content_ended stored c.args.root.now (map asked c.loop-count.reader.wanted.items) (map asked c.write_next.new.reader.wanted.items) c.in-Some.well (g.W.Write.contents c.args.output.now) (g.V.Write.contents c.args.errors.now) (g.W.Write.contents c.loop-count.output) (g.V.Write.contents c.loop-count.errors) (g.W.Write.contents c.write_next.new.output) (g.V.Write.contents c.write_next.new.errors) h k)
 
 pub loop-count-preserved : goal.loop-count-preserved
@@ -53,10 +53,10 @@ loop-count-preserved g c =
     let old = g.S.Store.view c.args.store.now in
     let mid = g.S.Store.view c.loop-count.store in
     let new = g.S.Store.view c.write_next.new.store in (
-      quiet_then g.S.Store c.args.store.now c.loop-count.store c.write_next.new.store c.loop-count.invariant.0 c.write_next.ensures.quiet,
-      λ clean. same_then old mid new (c.loop-count.invariant.1 (omega (arith, c.write_next.ensures.quiet.clean))) (c.in_ok-well.ensures.same clean),
+      quiet_then g.S.Store c.args.store.now c.loop-count.store c.write_next.new.store c.loop-count.invariant.0 c.write_next.ensures.reads.quiet,
+      λ clean. same_then old mid new (c.loop-count.invariant.1 (omega (arith, c.write_next.ensures.reads.quiet.clean))) (c.in_ok-well.ensures.reads.same clean),
       got_on g.S.Store c.args.store.now c.loop-count.store c.write_next.new.store (λ stored. HasSaid stored c.args.root.now (map asked c.loop-count.reader.wanted.items) (g.W.Write.contents c.args.output.now) (g.V.Write.contents c.args.errors.now) (g.W.Write.contents c.loop-count.output) (g.V.Write.contents c.loop-count.errors)) (λ stored. SaysNext {E = Fault} stored (map asked c.loop-count.reader.wanted.items) (map asked c.write_next.new.reader.wanted.items) (g.W.Write.contents c.loop-count.output) (g.V.Write.contents c.loop-count.errors) (Ok None) (g.W.Write.contents c.write_next.new.output) (g.V.Write.contents c.write_next.new.errors)) (λ stored. HasSaid stored c.args.root.now (map asked c.write_next.new.reader.wanted.items) (g.W.Write.contents c.args.output.now) (g.V.Write.contents c.args.errors.now) (g.W.Write.contents c.write_next.new.output) (g.V.Write.contents c.write_next.new.errors))
-          c.loop-count.invariant.1 c.write_next.ensures.quiet c.loop-count.invariant.2 (rw c.in_default.is at c.in_ok-well.ensures.says)
+          c.loop-count.invariant.1 c.write_next.ensures.reads.quiet c.loop-count.invariant.2 (rw c.in_default.is at c.in_ok-well.ensures.says)
           (λ stored h k. content_on stored c.args.root.now (map asked c.loop-count.reader.wanted.items) (map asked c.write_next.new.reader.wanted.items) (g.W.Write.contents c.args.output.now) (g.V.Write.contents c.args.errors.now) (g.W.Write.contents c.loop-count.output) (g.V.Write.contents c.loop-count.errors) (g.W.Write.contents c.write_next.new.output) (g.V.Write.contents c.write_next.new.errors) h k),
     )
 

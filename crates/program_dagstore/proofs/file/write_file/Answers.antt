@@ -14,7 +14,7 @@ returns-in-Ok-Ok-clause-says g c =
     let path = segments c.args.path.now in
     let found = c.in-Ok-Ok.found in
     got_on g.S.Store c.args.store.now c.find_file.new.store c.write_content.new.store (λ stored. LeadsByNames stored root path found) (λ stored. SaysContent stored found (g.W.Write.contents c.args.output.now) (g.V.Write.contents c.args.errors.now) c.write_content.result (g.W.Write.contents c.write_content.new.output) (g.V.Write.contents c.write_content.new.errors)) (λ stored. SaysFile stored root path (g.W.Write.contents c.args.output.now) (g.V.Write.contents c.args.errors.now) c.write_content.result (g.W.Write.contents c.write_content.new.output) (g.V.Write.contents c.write_content.new.errors))
-    c.in-Ok-Ok.ensures.same c.write_content.ensures.quiet (rw c.in-Ok-Ok.field-0-is at c.in-Ok-Ok.ensures.found) c.write_content.ensures.says
+    c.in-Ok-Ok.ensures.reads.same c.write_content.ensures.reads.quiet (rw c.in-Ok-Ok.field-0-is at c.in-Ok-Ok.ensures.found) c.write_content.ensures.says
     (λ stored leads said. inl (found, leads, said))
 
 pub returns-in-Ok-Ok-clause-fault : goal.returns-in-Ok-Ok-clause-fault
@@ -22,7 +22,7 @@ returns-in-Ok-Ok-clause-fault g c =
     let root = c.args.root.now in
     let path = segments c.args.path.now in
     let found = c.in-Ok-Ok.found in
-    fails_after g.S.Store c.args.store.now c.find_file.new.store c.write_content.new.store (IsWantedIn found) (IsOfFile root path) c.write_content.result c.find_file.ensures.quiet c.in-Ok-Ok.ensures.same c.write_content.ensures.quiet
+    fails_after g.S.Store c.args.store.now c.find_file.new.store c.write_content.new.store (IsWantedIn found) (IsOfFile root path) c.write_content.result c.find_file.ensures.reads.quiet c.in-Ok-Ok.ensures.reads.same c.write_content.ensures.reads.quiet
     (λ clean stored shows n wanted. inr (found, got_stored_so g.S.Store c.args.store.now c.find_file.new.store (λ s. LeadsByNames s root path found) (rw c.in-Ok-Ok.field-0-is at c.in-Ok-Ok.ensures.found) clean stored shows, wanted))
     c.write_content.ensures.fault
 

@@ -37,6 +37,11 @@ impl<R: Files, W: Write> NewFiles for HostFiles<'_, R, W> {
         match File::create_new(self.host, name) {
             Ok(file) => {
                 self.begun = Some(kept);
+                // The clone is no standard stream, not even one that was closed: a name or a
+                // message would go into the part.
+                let Ok(file) = file.try_clone() else {
+                    return Err(NotBegun::Failed(ToolError::Output));
+                };
                 match BufWriter::new(self.alloc, file) {
                     Ok(file) => Ok(file),
                     Err(_) => Err(NotBegun::Failed(ToolError::OutOfMemory)),

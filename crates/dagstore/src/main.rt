@@ -17,7 +17,7 @@ use program_dagstore::{
 use program_parts::no_cid_line;
 use program_shared::{ToolError, arguments, give_up, write_all};
 use std::fs;
-use std::io::{BufReader, BufWriter, IsTerminal, Read, Write};
+use std::io::{BufReader, BufWriter, ErrorKind, IsTerminal, Read, Write};
 use std::process::ExitCode;
 use store_on_disk::{BlockStore, FileFrom, FileStore, Wary};
 
@@ -386,8 +386,16 @@ fn run_text<W: Write>(rt: &HostRuntime, text: &str, errors: &mut W) -> u8 {
     }
 }
 
+/// Returns true if the word asks for a text, so that it names no file.
+fn is_of_help(word: &str) -> bool {
+    word == "--help" || word == "--version"
+}
+
 /// Runs the command that the arguments name, and returns the exit status.
 fn run_words<W: Write>(rt: &HostRuntime, words: &[String], errors: &mut W) -> u8 {
+    if words.len() > 1 && is_of_help(words[0].as_str()) {
+        return give_up(errors, USAGE, 2);
+    }
     match words_of(rt.alloc(), words) {
         Ok(Words::Import(path, from)) => run_import(rt, path, from, errors),
         Ok(Words::Put(path, codec)) => run_put(rt, path, codec, errors),
@@ -407,7 +415,8 @@ fn main(rt: HostRuntime) -> ExitCode {
     let mut errors = rt.stderr().lock();
     let status = match arguments(&rt) {
         Ok(words) => run_words(&rt, &words, &mut errors),
-        Err(_) => give_up(&mut errors, OUT_OF_MEMORY, 2),
+        Err(e) if e.kind() == ErrorKind::OutOfMemory => give_up(&mut errors, OUT_OF_MEMORY, 2),
+        Err(_) => give_up(&mut errors, USAGE, 2),
     };
     ExitCode::from(status)
 }

@@ -5,8 +5,9 @@ use program_serve::{
     Pause, answer_bad, answer_export, answer_import, answer_requests, refuse_file,
 };
 use program_shared::{ToolError, give_up};
-use std::fs;
+use std::fs::File;
 use std::io::{BufReader, BufWriter, Write};
+use std::{fs, io};
 use store_on_disk::{BlockStore, FileFrom, FileStore, Wary};
 
 type Store = BlockStore<FileStore<FileFrom<Wary>>>;
@@ -17,7 +18,7 @@ const NOT_MADE: &[u8] = b"dagstore: the file is there, or cannot be made\n";
 /// Stores the blocks of the CAR file at the path, all or none.
 fn serve_import(rt: &HostRuntime, store: &mut Store, path: &str) -> Result<(), ToolError> {
     let mut output = rt.stdout().lock();
-    let Ok(file) = fs::File::open(rt, path) else {
+    let Ok(file) = File::open(rt, path) else {
         return refuse_file(rt.alloc(), NOT_READ.as_bytes(), &mut output);
     };
     match BufReader::new(rt.alloc(), file) {
@@ -26,22 +27,38 @@ fn serve_import(rt: &HostRuntime, store: &mut Store, path: &str) -> Result<(), T
     }
 }
 
+/// Makes the file, where no file may be. It is no standard stream, not even one that was closed.
+fn new_file(rt: &HostRuntime, path: &str) -> io::Result<File> {
+    let made = File::create_new(rt, path)?;
+    let file = made.try_clone();
+    if file.is_err() {
+        let _ = fs::remove_file(rt, path);
+    }
+    file
+}
+
 /// Writes a CAR file of all blocks at the path, where no file may be. One that is not complete is
 /// removed.
 fn serve_export(rt: &HostRuntime, store: &mut Store, path: &str) -> Result<(), ToolError> {
     let mut output = rt.stdout().lock();
-    let Ok(file) = fs::File::create_new(rt, path) else {
+    let Ok(file) = new_file(rt, path) else {
         return refuse_file(rt.alloc(), NOT_MADE, &mut output);
     };
     let Ok(mut file) = BufWriter::new(rt.alloc(), file) else {
         let _ = fs::remove_file(rt, path);
         return Err(ToolError::OutOfMemory);
     };
-    let whole = answer_export(rt.alloc(), store, &mut file, &mut output)?;
-    if !whole {
-        let _ = fs::remove_file(rt, path);
+    match answer_export(rt.alloc(), store, &mut file, &mut output) {
+        Ok(true) => Ok(()),
+        Ok(false) => {
+            let _ = fs::remove_file(rt, path);
+            Ok(())
+        }
+        Err(error) => {
+            let _ = fs::remove_file(rt, path);
+            Err(error)
+        }
     }
-    Ok(())
 }
 
 /// Handles why the answers paused. Returns the status if no more requests are read.

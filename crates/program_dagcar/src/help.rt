@@ -43,7 +43,7 @@ CAR files (version 1 or 2); FILE may be left out, or be -, for standard input:
   commit   show the commit of a repository
   changes  list the keys whose records differ between two repositories, and their CIDs
   filter   write a CAR file of the blocks with this codec, or with the CIDs in a list
-  merge    write one CAR file of the valid blocks of several, each block once
+  merge    write one CAR file of the sections of several, each right block once
   split    write the blocks in order to PREFIX-0.car, PREFIX-1.car and so on, files of at
            most BYTES bytes, or of one block
   index    write the same file in version 2 with an index, by which get and at find blocks

@@ -1,12 +1,12 @@
 //! The commands of the program: what each writes, and its exit status.
 
-ghost use Rattle.std.specs.Prelude.{Result, Bool, Option, List, ℕ, ◌⊎◌, OnOk, IfErr};
+ghost use Rattle.std.specs.Prelude.{Result, Bool, Option, List, ℕ, ◌⊎◌, IfErr};
 ghost use Rattle.sqlite_trees.specs.View.{IsClean};
 ghost use Rattle.ipld_paths.specs.Paths.{segments};
 ghost use Rattle.program_parts.specs.Entries.{IsListing};
 ghost use Rattle.store_on_disk.specs.Ends.{Quiet};
-ghost use Rattle.store_on_disk.specs.Stored.{IsAddedTo, IsKeptBy, StaysSame};
-ghost use Rattle.program_dagstore.specs.Blocks.{SaysCount, IsGotBlock, Has};
+ghost use Rattle.store_on_disk.specs.Stored.{IsAddedTo, IsKeptBy, JustReads};
+ghost use Rattle.program_dagstore.specs.Blocks.{SaysCount, IsGotBlock, GetFails, Has};
 ghost use Rattle.program_dagstore.specs.Changes.{name_as, SaysPut, ListsOthers, SaysRemoved};
 ghost use Rattle.program_dagstore.specs.Contents.{OfGot, SaysFile, IsOfFile, FailsAt};
 ghost use Rattle.program_dagstore.specs.Directories.{IsOfListing};
@@ -43,11 +43,11 @@ pub fn answer_list<S: Store, W: Write, V: Write>(
     output: &mut W,
     errors: &mut V,
 ) -> u8
-    ensures answers { (ended : Result Bool Fault)
+    ensures { (ended : Result Bool Fault)
         × ExitsSo ended result (V.contents errors.old) (V.contents errors.new)
         × SaysNames IsListedLine (S.Store.view store.old) (W.contents output.old) ended
-        (S.Store.view store.new) (W.contents output.new) }
-    ensures quiet { Quiet S.Store store.old store.new }
+        (S.Store.view store.new) (W.contents output.new) × JustReads S.Store ended store.old store.new
+        × IfErr ended (StoreFails S.Store store.old store.new) }
 {
     end(list_blocks(alloc, store, output), errors)
 }
@@ -60,11 +60,11 @@ pub fn answer_check<S: Store, W: Write, V: Write, E: Write>(
     errors: &mut V,
     progress: &mut Progress<E>,
 ) -> u8
-    ensures answers { (ended : Result Bool Fault)
+    ensures { (ended : Result Bool Fault)
         × ExitsSo ended result (V.contents errors.old) (V.contents errors.new)
         × SaysStoreChecked (S.Store.view store.old) (W.contents output.old) ended (S.Store.view store.new)
-        (W.contents output.new) }
-    ensures quiet { Quiet S.Store store.old store.new }
+        (W.contents output.new) × JustReads S.Store ended store.old store.new
+        × IfErr ended (StoreFails S.Store store.old store.new) }
 {
     end(check_store(alloc, store, output, progress), errors)
 }
@@ -76,11 +76,11 @@ pub fn answer_count<S: Store, W: Write, V: Write>(
     output: &mut W,
     errors: &mut V,
 ) -> u8
-    ensures answers { (ended : Result Bool Fault)
+    ensures { (ended : Result Bool Fault)
         × ExitsSo ended result (V.contents errors.old) (V.contents errors.new)
         × SaysCount (S.Store.view store.old) (W.contents output.old) ended (S.Store.view store.new)
-        (W.contents output.new) }
-    ensures quiet { Quiet S.Store store.old store.new }
+        (W.contents output.new) × JustReads S.Store ended store.old store.new
+        × IfErr ended (StoreFails S.Store store.old store.new) }
 {
     end(count_blocks(alloc, store, output), errors)
 }
@@ -92,12 +92,11 @@ pub fn answer_roots<S: Store, W: Write, V: Write>(
     output: &mut W,
     errors: &mut V,
 ) -> u8
-    ensures answers { (ended : Result Bool Fault)
+    ensures { (ended : Result Bool Fault)
         × ExitsSo ended result (V.contents errors.old) (V.contents errors.new)
         × SaysRoots (S.Store.view store.old) (W.contents output.old) ended (S.Store.view store.new)
-        (W.contents output.new) × OnOk ended (StaysSame S.Store store.old store.new)
+        (W.contents output.new) × JustReads S.Store ended store.old store.new
         × IfErr ended (StoreFails S.Store store.old store.new) }
-    ensures quiet { Quiet S.Store store.old store.new }
 {
     end(list_roots(alloc, store, output), errors)
 }
@@ -126,11 +125,12 @@ pub fn answer_get<S: Store, W: Write, V: Write>(
     output: &mut W,
     errors: &mut V,
 ) -> u8
-    ensures answers { (ended : Result Bool Fault) × (heard : Option (List ℕ))
+    ensures { (ended : Result Bool Fault) × (heard : Option (List ℕ))
         × SaysAll (IsGotBlock name.now (S.Store.view store.old) (S.Store.view store.new))
         (W.contents output.old) (V.contents errors.old) ended (W.contents output.new) heard
+        × JustReads S.Store ended store.old store.new
+        × IfErr ended (GetFails S.Store name.now store.old store.new)
         × ExitsSo ended result heard (V.contents errors.new) }
-    ensures quiet { Quiet S.Store store.old store.new }
 {
     let ended = get_block(alloc, store, name, output, errors);
     end(ended, errors)
@@ -146,13 +146,12 @@ pub fn answer_at<S: Store, W: Write, V: Write>(
     output: &mut W,
     errors: &mut V,
 ) -> u8
-    ensures answers { (ended : Result Bool Fault) × (heard : Option (List ℕ))
+    ensures { (ended : Result Bool Fault) × (heard : Option (List ℕ))
         × SaysAll (IsAnswerIn is_raw root.now (segments path.now) (S.Store.view store.old)
         (S.Store.view store.new)) (W.contents output.old) (V.contents errors.old) ended
-        (W.contents output.new) heard × OnOk ended (StaysSame S.Store store.old store.new)
+        (W.contents output.new) heard × JustReads S.Store ended store.old store.new
         × IfErr ended (WayFails S.Store root.now (segments path.now) store.old store.new)
         × ExitsSo ended result heard (V.contents errors.new) }
-    ensures quiet { Quiet S.Store store.old store.new }
 {
     let ended = write_at(alloc, store, is_raw, root, path, output, errors);
     end(ended, errors)
@@ -167,13 +166,12 @@ pub fn answer_cat<S: Store, W: Write, V: Write>(
     output: &mut W,
     errors: &mut V,
 ) -> u8
-    ensures answers { (ended : Result Bool Fault) × (heard : Option (List ℕ))
+    ensures { (ended : Result Bool Fault) × (heard : Option (List ℕ))
         × OfGot (S.Store.view store.old) (S.Store.view store.new) (λ stored. SaysFile stored root.now
         (segments path.now) (W.contents output.old) (V.contents errors.old) ended
-        (W.contents output.new) heard) × OnOk ended (StaysSame S.Store store.old store.new)
+        (W.contents output.new) heard) × JustReads S.Store ended store.old store.new
         × IfErr ended (FailsAt S.Store (IsOfFile root.now (segments path.now)) store.old store.new)
         × ExitsSo ended result heard (V.contents errors.new) }
-    ensures quiet { Quiet S.Store store.old store.new }
 {
     let ended = write_file(alloc, store, root, path, output, errors);
     end(ended, errors)
@@ -188,13 +186,12 @@ pub fn answer_ls<S: Store, W: Write, V: Write>(
     output: &mut W,
     errors: &mut V,
 ) -> u8
-    ensures answers { (ended : Result Bool Fault) × (heard : Option (List ℕ))
+    ensures { (ended : Result Bool Fault) × (heard : Option (List ℕ))
         × OfGot (S.Store.view store.old) (S.Store.view store.new) (λ stored. SaysAll
         (IsListing stored root.now (segments path.now)) (W.contents output.old) (V.contents errors.old)
-        ended (W.contents output.new) heard) × OnOk ended (StaysSame S.Store store.old store.new)
+        ended (W.contents output.new) heard) × JustReads S.Store ended store.old store.new
         × IfErr ended (FailsAt S.Store (IsOfListing root.now (segments path.now)) store.old store.new)
         × ExitsSo ended result heard (V.contents errors.new) }
-    ensures quiet { Quiet S.Store store.old store.new }
 {
     let ended = write_listing(alloc, store, root, path, output, errors);
     end(ended, errors)

@@ -2,7 +2,6 @@
 
 ghost use Rattle.std.specs.Prelude.{◌≡◌, [], ◌∷◌, ◌++◌, List, OnOk, IfOk, IfErr, MatchBool};
 ghost use Rattle.sqlite_trees.specs.View.{IsClean};
-ghost use Rattle.store_on_disk.specs.Ends.{Quiet};
 ghost use Rattle.store_on_disk.specs.Stored.{JustReads, FailsByStore};
 ghost use Rattle.store_on_disk.specs.Collecting.{HasBlockAt};
 ghost use Rattle.program_dagstore.specs.Said.{StoreFails};
@@ -116,7 +115,8 @@ pub fn check_store<S: Store, W: Write, E: Write>(
 ) -> Result<bool, Fault>
     ensures says { SaysStoreChecked (S.Store.view store.old) (W.contents output.old) result
         (S.Store.view store.new) (W.contents output.new) }
-    ensures quiet { Quiet S.Store store.old store.new }
+    ensures fault { IfErr result (StoreFails S.Store store.old store.new) }
+    ensures reads { JustReads S.Store result store.old store.new }
 {
     let links = check_blocks(alloc, store, output, progress)?;
     let roots = check_roots(alloc, store, output)?;

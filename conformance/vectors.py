@@ -269,6 +269,9 @@ SUBJECTS = {
     "dag-json": b"null".hex(), "to-dag-json": "f6", "paths": "f6 -", "segments": "f6 /", "dag-pb": "0a020801",
 }  # fmt: skip
 
+# The groups of all vectors that are asked, but for random ones.
+GROUPS = (*grammar.GROUPS, "short", "truncations", *FORMS, "writing", "to-dag-json")
+
 
 def written():
     """For writers: data as DAG-JSON, with the keys of maps in other orders, and its one spelling; or data that has none."""

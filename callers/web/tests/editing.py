@@ -72,6 +72,24 @@ def reserved(page):
     return "one block of them"
 
 
+def kept(page):
+    """A map whose one key is / has the text of a link, or of none: it is not edited. With another key it is."""
+    cid = named(b"\xf6")
+    octets = entries(**{"/": entries(bytes=text("AQID"))})
+    for block in (entries(**{"/": text(cid_text(cid))}), octets, entries(**{"/": b"\x01"}), b"\x81" + octets):
+        page.give_bytes(block)
+        page.tab("Edit")
+        page.wait("document.querySelector('textarea.json').placeholder.includes('the key \"/\" alone')")
+        same(page.js("return document.querySelector('textarea.json').value"), "", block.hex())
+        same(page.js(f"return Boolean({MADE})"), False, block.hex())
+    block = entries(**{"/": text(cid_text(cid)), "a": b"\x01"})
+    page.give_bytes(block)
+    page.tab("Edit")
+    page.wait(MADE)
+    same(page.text(".spelled .whole").replace(" ", ""), block.hex())
+    return "four that are not edited, and one that is"
+
+
 def downloaded(page):
     """What is downloaded is the block that was typed, under its CID."""
     page.cdp("Browser.setDownloadBehavior", behavior="allow", downloadPath=page.folder)
@@ -92,4 +110,4 @@ def downloaded(page):
     return "the block"
 
 
-TESTS = [there_and_back, typed, reserved, downloaded]
+TESTS = [there_and_back, typed, reserved, kept, downloaded]

@@ -156,8 +156,10 @@ def in_profile(vector, profile):
     if profile == "floats" and "with_floats" in vector:
         kept = {key: it for key, it in vector.items() if key not in SAID}
         return kept | vector["with_floats"]
-    is_open = profile is None or vector.get("open") != "floats"
-    return vector if is_open else {key: it for key, it in vector.items() if key != "open"}
+    if profile is None:
+        return vector
+    others = ("with_floats", "open") if vector.get("open") == "floats" else ("with_floats",)
+    return {key: it for key, it in vector.items() if key not in others}
 
 
 # What is said of the bytes, in a profile.

@@ -44,17 +44,23 @@ def shortened(text):
 
 
 def is_told(vector, words):
-    """Returns true if the words are a cause that stands in the vector, by its own name or the proved library's, and perhaps its place."""
+    """Returns true if the words are a cause that stands in the vector, by its own name or the proved library's, and perhaps its place:
+    without a profile, in either one."""
+    either = [vector, in_profile(vector, "floats")] if "with_floats" in vector else [vector]
+    return any(stands(it, words) for it in either if it["verdict"] == "refused")
+
+
+def stands(vector, words):
     name, _, place = words.rpartition(" ") if words.rpartition(" ")[2].isdigit() else (words, "", "")
     named = {cause for cause, variant in VARIANTS.items() if name in (cause, variant)}
     also, at = vector.get("also", []), vector["at"]
     is_bound = vector.get("open") == "digests" or "no CID" in also
     if named & {"too deep", *(["no CID"] if is_bound else [])} & {vector["cause"], *also}:
         return True  # each codec sets the place of a bound itself
-    stand = [(it, at) for it in (vector["cause"], *also)]
-    stand += [("non-minimal", end_of_head(vector))] if "non-minimal" in also else []
-    stand += [(it["cause"], it["at"]) for it in [vector.get("without_bounds")] if it]
-    return any(cause in named and place in ("", str(at)) for cause, at in stand)
+    all_there = [(it, at) for it in (vector["cause"], *also)]
+    all_there += [("non-minimal", end_of_head(vector))] if "non-minimal" in also else []
+    all_there += [(it["cause"], it["at"]) for it in [vector.get("without_bounds")] if it]
+    return any(cause in named and place in ("", str(at)) for cause, at in all_there)
 
 
 def end_of_head(vector):

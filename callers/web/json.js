@@ -20,11 +20,11 @@ const valueText = (bytes, shape, i) => {
 };
 
 // The text, cut if it is longer than `most`. `isReserved` if a map has the key "/", which DAG-JSON
-// keeps for links and byte strings; `isOther` if one has no other key, so that its text is not of it.
+// keeps for links and byte strings.
 export const writeJson = (bytes, shape, indent, most = Infinity) => {
   const parts = [];
   const open = []; // the lists and maps around
-  let [length, isReserved, isOther] = [0, false, false];
+  let [length, isReserved] = [0, false];
   const put = (text) => {
     parts.push(text);
     length += text.length;
@@ -51,15 +51,11 @@ export const writeJson = (bytes, shape, indent, most = Infinity) => {
       else open.push(i);
     } else {
       const text = valueText(bytes, shape, i);
-      if (shape.isKey[i] && text === '"/"') {
-        isReserved = true;
-        isOther ||= shape.number[shape.parent[i]] === 1n;
-      }
+      if (shape.isKey[i] && text === '"/"') isReserved = true;
       put(text);
     }
     close(i + 1);
   }
   const isWhole = length < most || !open.length;
-  const all = parts.join('');
-  return { text: isWhole ? all : all.slice(0, most), isWhole, isReserved, isOther };
+  return { text: isWhole ? parts.join('') : parts.join('').slice(0, most), isWhole, isReserved };
 };

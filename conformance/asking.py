@@ -10,6 +10,7 @@ import threading
 from dataclasses import dataclass
 
 PATIENCE = 20  # the lines that may hang before the peer is asked no more
+MOST_LINE = 1 << 26  # bytes of an answer
 
 
 @dataclass
@@ -22,11 +23,10 @@ class Answer:
 
 
 def understood(line):
-    how, _, words = line.partition(" ")
+    how, space, words = line.partition(" ")
     if how == "ok":
-        first = words.split(" ")[0] if words else ""
-        try:
-            return Answer("ok", bytes.fromhex(first) if first else None, words)
+        try:  # nothing after a space is what it wrote, and no byte
+            return Answer("ok", bytes.fromhex(words.split(" ")[0]) if space else None, words)
         except ValueError:
             return Answer("ok", None, words)
     if how == "refused":
@@ -43,15 +43,26 @@ def feed(pipe, lines):
         pass
 
 
-def heard(pipe, seconds):
-    """Returns all that comes, and true if nothing came for this long."""
-    parts = []
+def heard(pipe, seconds, most):
+    """Returns all that comes, or more lines than this many, or a line without end; and true if nothing came for this long."""
+    parts, count, length = [], 0, 0  # of lines, and of the bytes of the last one
     while select.select([pipe], [], [], seconds)[0]:
         part = os.read(pipe, 1 << 16)
-        if not part:
-            return b"".join(parts), False
         parts.append(part)
+        count += part.count(b"\n")
+        length = len(part.rpartition(b"\n")[2]) + (0 if b"\n" in part else length)
+        if not part or count > most or length > MOST_LINE:
+            return b"".join(parts), False
     return b"".join(parts), True
+
+
+def ends(process, seconds):
+    """Returns true if the process ends in that time. It may go on without its output."""
+    try:
+        process.wait(seconds)
+        return True
+    except subprocess.TimeoutExpired:
+        return False
 
 
 @dataclass
@@ -72,11 +83,12 @@ class Peer:
         pipes = {"stdin": subprocess.PIPE, "stdout": subprocess.PIPE, "stderr": subprocess.DEVNULL}
         process = subprocess.Popen(self.command, **pipes, preexec_fn=self.limit, start_new_session=True)
         threading.Thread(target=feed, args=(process.stdin, lines), daemon=True).start()
-        out, is_late = heard(process.stdout.fileno(), self.seconds)
-        if is_late:
+        out, is_late = heard(process.stdout.fileno(), self.seconds, len(lines))
+        process.stdout.close()
+        if is_late or not ends(process, self.seconds):
+            is_late = True
             os.killpg(process.pid, signal.SIGKILL)
         code = process.wait()
-        process.stdout.close()
         answers = out.decode(errors="replace").split("\n")[:-1]
         if len(answers) == len(lines):
             return answers, None

@@ -29,19 +29,20 @@ def argument_of(block, at):
 
 
 def string_of(block, at, major, length):
-    """The payload of a string, from its chunks if the length is indefinite."""
+    """The chunks of a string: one, unless the length is indefinite."""
     if length is not None:
         if at + length > len(block):
             raise NotWellFormed
-        return block[at : at + length], at + length
-    chunks = b""
+        return [block[at : at + length]], at + length
+    chunks = []
     while True:
         if block[at : at + 1] == b"\xff":
             return chunks, at + 1
         other, _, length, at = argument_of(block, at)
         if other != major or length is None or at + length > len(block):
             raise NotWellFormed
-        chunks, at = chunks + block[at : at + length], at + length
+        chunks.append(block[at : at + length])
+        at += length
 
 
 def simple_of(information, argument):
@@ -77,12 +78,13 @@ def parts_of(block, at, count, faults):
     return parts, at
 
 
-def text_of(payload, faults):
+def text_of(chunks, faults):
+    """Each chunk is a text, so no character is spread over two (3.2.3)."""
     try:
-        return ("text", payload.decode("utf-8"))
+        return ("text", "".join(it.decode("utf-8") for it in chunks))
     except UnicodeDecodeError:
         faults.append("invalid UTF-8")
-        return ("text", payload)
+        return ("text", b"".join(chunks))
 
 
 def entries_of(parts, faults):
@@ -108,8 +110,8 @@ def item_of(block, at, faults, may_break=False):
     if major < 2:
         return ("integer", argument if major == 0 else -1 - argument), at
     if major < 4:
-        payload, at = string_of(block, at, major, argument)
-        return (("bytes", payload) if major == 2 else text_of(payload, faults)), at
+        chunks, at = string_of(block, at, major, argument)
+        return (("bytes", b"".join(chunks)) if major == 2 else text_of(chunks, faults)), at
     if major == 4:
         parts, at = parts_of(block, at, argument, faults)
         return ("list", parts), at

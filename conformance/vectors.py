@@ -156,8 +156,10 @@ def in_profile(vector, profile):
     if profile == "floats" and "with_floats" in vector:
         kept = {key: it for key, it in vector.items() if key not in SAID}
         return kept | vector["with_floats"]
-    is_open = profile is None or vector.get("open") != "floats"
-    return vector if is_open else {key: it for key, it in vector.items() if key != "open"}
+    if profile is None:
+        return vector
+    others = ("with_floats", "open") if vector.get("open") == "floats" else ("with_floats",)
+    return {key: it for key, it in vector.items() if key not in others}
 
 
 # What is said of the bytes, in a profile.
@@ -268,6 +270,9 @@ SUBJECTS = {
     "blocks": "f6", "writing": "null", "cid-texts": b"bafkqaaa".hex(), "files": "19a265726f6f747381d82a4500015500006776657273696f6e01",
     "dag-json": b"null".hex(), "to-dag-json": "f6", "paths": "f6 -", "segments": "f6 /", "dag-pb": "0a020801",
 }  # fmt: skip
+
+# The groups of all vectors that are asked, but for random ones.
+GROUPS = (*grammar.GROUPS, "short", "truncations", *FORMS, "writing", "to-dag-json")
 
 
 def written():

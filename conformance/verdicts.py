@@ -4,7 +4,8 @@ from collections import Counter
 from dataclasses import dataclass
 
 import cbor
-from vectors import VARIANTS, block_of, in_profile, line_of
+from judge import VARIANTS, WIDTHS
+from vectors import block_of, in_profile, line_of
 
 # What may come of a vector, from the best to the worst, and if it is wrong by RFC 8949 too.
 OUTCOMES = {
@@ -43,14 +44,29 @@ def shortened(text):
 
 
 def is_told(vector, words):
-    """Returns true if the words are a cause that stands in the vector, by its own name or the proved library's, and perhaps its place."""
+    """Returns true if the words are a cause that stands in the vector, by its own name or the proved library's, and perhaps its place:
+    without a profile, in either one."""
+    either = [vector, in_profile(vector, "floats")] if "with_floats" in vector else [vector]
+    return any(stands(it, words) for it in either if it["verdict"] == "refused")
+
+
+def stands(vector, words):
     name, _, place = words.rpartition(" ") if words.rpartition(" ")[2].isdigit() else (words, "", "")
     named = {cause for cause, variant in VARIANTS.items() if name in (cause, variant)}
-    stands = lambda cause, at: cause in named and place in ("", str(at))
-    if named & {*vector.get("also", ()), *({"too deep"} & {vector["cause"]})}:
+    also, at = vector.get("also", []), vector["at"]
+    is_bound = vector.get("open") == "digests" or "no CID" in also
+    if named & {"too deep", *(["no CID"] if is_bound else [])} & {vector["cause"], *also}:
         return True  # each codec sets the place of a bound itself
-    other = vector.get("without_bounds")
-    return stands(vector["cause"], vector["at"]) or (other is not None and stands(other["cause"], other["at"]))
+    all_there = [(it, at) for it in (vector["cause"], *also)]
+    all_there += [("non-minimal", end_of_head(vector))] if "non-minimal" in also else []
+    all_there += [(it["cause"], it["at"]) for it in [vector.get("without_bounds")] if it]
+    return any(cause in named and place in ("", str(at)) for cause, at in all_there)
+
+
+def end_of_head(vector):
+    """The place of the last byte of the head that begins where the fault is told."""
+    at = vector["at"]
+    return at + WIDTHS.get(block_of(vector)[at] & 31, 0)
 
 
 def outcome(vector, answer, cannot=(), tells=False):
@@ -69,8 +85,8 @@ def outcome(vector, answer, cannot=(), tells=False):
     if vector["group"] in WORDS:
         return outcome_of_words(vector, answer.words)
     if answer.block is None:
-        said = answer.words.split(" ")[0]
-        return "held" if said in ("", vector.get("kind", said)) else "other data"
+        said, is_writer = answer.words.split(" ")[0], vector["group"] == "writing"
+        return "held" if said in ("", vector.get("kind", said)) and not is_writer else "other data"
     block = block_of(vector) if vector["group"] != "writing" else written_block(vector)
     if answer.block == block or block is None:
         return "held"
@@ -90,7 +106,7 @@ def written_block(vector):
     return block and bytes.fromhex(block)
 
 
-# What a peer answers after `ok` about what stands around blocks: words, the last of which it may leave out.
+# What a peer answers after `ok` about what stands around blocks: a word or two, the second of which it may leave out.
 WORDS = {
     "cid-texts": lambda it: [it["cid"], it["written"]],
     "files": lambda it: [",".join(it["roots"]) or "-", ",".join(one["cid"] for one in it["sections"]) or "-"],
@@ -103,14 +119,14 @@ WORDS = {
 
 
 def outcome_of_words(vector, words):
-    """For what a peer took: the same words, as far as it has some."""
+    """For what a peer took: the same words, or the first of them."""
     said = vector if vector["verdict"] == "ok" else vector.get("with_floats", vector)
     try:
         wanted = WORDS[vector["group"]](said)
     except KeyError:
         return "held"  # it is open if it is taken, and not said how
     told = words.split()
-    return "held" if told == wanted[: len(told)] else "other data"
+    return "held" if told and told == wanted[: len(told)] else "other data"
 
 
 def table(judged):

@@ -50,8 +50,8 @@ class Part:
 class Language:
     """What is made from one schema: one file. Each language is a subclass. It has the templates below, in which {} stands for the
     parts that are put in, and methods for what no template says: `head`, `declared`, `field_name`, `function`, `helper`,
-    `integer_type`, `list_type`, `quoted`, `meant`, `guarded`, `constructed`, `written_map`, `looked_at`, `enum`, `unit` and
-    `kind_patterns`."""
+    `integer_type`, `list_type`, `quoted`, `meant`, `struct_value`, `guarded`, `constructed`, `written_map`, `looked_at`, `enum`,
+    `unit` and `kind_patterns`."""
 
     called = suffix = ""  # its name, and the ending of its files' names
     step, end, gap = 4, "", 1  # of an indent; of a statement; empty lines between two blocks
@@ -63,7 +63,7 @@ class Language:
     function_head, function_end = "", []  # of a function that reads or writes: the first row, and those after its body
     let, let_two, let_list = "", "", ""  # what sets a variable, two variables, and one that is a list of data
     number, path_of, length, added = "{}", "", "", ""  # a number, a place, how many items a list has, and what adds one
-    struct_value, map_value = "", ""  # the value, if it is a struct or a map
+    map_value = ""  # the value, if it is a map
     is_there, absent = "", ("", "")  # whether a field is there; what stands for one that is not, and for one if null is a value
     has = {"entries": "", "pairs": "", "items": ""}  # whether the data has a field
     choice_by, choice_end = "", []  # the first row of a choice, and those of its last statement
@@ -256,9 +256,10 @@ class Language:
         """The statement of an arm of a choice, on one line."""
         return [self.row(head + ", ".join(items) + close, 3)]
 
-    def held(self, struct):
-        """The statement that sets a variable to the value."""
-        return self.row(self.let.format("held") + self.struct_value.format(struct.name))
+    def held(self, one, let=None):
+        """The rows that set a variable to the value, which is a struct, or tells which member of a union it is."""
+        head, items, close = self.struct_value(one)
+        return self.statement((self.let.format("held") if let is None else let) + head, items, close)
 
     def there(self, field):
         """Returns the test of whether a value has a field that may be left out."""
@@ -342,7 +343,7 @@ class Language:
         return [self.row(self.let.format("items") + self.items(struct)), *self.constructed(struct, parts)]
 
     def written_tuple(self, struct):
-        rows, items = [self.held(struct)], [self.written(field, place) for place, field in enumerate(struct.fields)]
+        rows, items = self.held(struct), [self.written(field, place) for place, field in enumerate(struct.fields)]
         least = count_needed(struct)
         if least == len(items):
             return rows + self.statement("return [", items, "]")
@@ -362,7 +363,7 @@ class Language:
             pairs.append(f"[{key}, {self.written(field, place, 1)}]")
         items, held = (self.let.format(name) if parts else "" for name in ("items", "held"))
         read = [self.row(items + self.items(struct)), *self.constructed(struct, parts)]
-        write = [self.row(held + self.struct_value.format(struct.name)), *self.statement("return [", pairs, "]")]
+        write = [*self.held(struct, held), *self.statement("return [", pairs, "]")]
         return self.both(struct, read, write)
 
     def read_pairs(self, struct):
@@ -373,7 +374,7 @@ class Language:
         return self.statement(head, ["value", "at", str(count_needed(struct)), *keys], ")") + self.constructed(struct, parts)
 
     def written_pairs(self, struct):
-        rows = [self.held(struct), self.row(self.let_list.format("pairs") + "[]")]
+        rows = [*self.held(struct), self.row(self.let_list.format("pairs") + "[]")]
         for field in struct.fields:
             pair = [self.quoted(field.key), self.written(field, self.length.format("pairs"), 1)]
             rows += self.put(field, f"pairs.{self.added}([", pair, "])")
@@ -385,7 +386,7 @@ class Language:
             parts.append(Part(field, self.conversion(field.type, "read"), [f"pieces[{place}]", "at"]))
         pieces = f"{self.let.format('pieces')}{self.helper('pieces')}(value, at, {join}, {len(parts)})"
         joined = self.statement(f"return {self.helper('joined')}(", ["at", join, *map(self.written, struct.fields)], ")")
-        return self.both(struct, [self.row(pieces), *self.constructed(struct, parts)], [self.held(struct), *joined])
+        return self.both(struct, [self.row(pieces), *self.constructed(struct, parts)], [*self.held(struct), *joined])
 
     # -- enums and units
 
@@ -476,7 +477,7 @@ class Language:
     def written_member(self, union, write):
         """The rows that write the member that the value is, from those of each member."""
         arms = [(self.member_pattern.format(union.name, case.name), write(case)) for case in union.cases]
-        held = [self.held(union)] if self.union == "held" else []
+        held = self.held(union) if self.union == "held" else []
         return held + self.choice(self.told_by, arms, self.no_member.format(union.name))
 
     def made_member(self, union, case, value):

@@ -257,7 +257,7 @@ class Python(Language):
     function_head = "def {}(value: Any, at: _Place) -> {}:"
     let, let_two, let_list = "{} = ", "{}, {} = ", "{}: list[Any] = "
     path_of, length, added = "(*at, {})", "len({})", "append"
-    struct_value, map_value = "_is({}, value, at)", "_is(dict, value, at)"
+    map_value = "_is(dict, value, at)"
     is_there, absent = "held.{} is not {}", ("None", "Absent.ABSENT")
     choice_by, choice_end = "match {}:", ["    {}"]
     refusal = 'raise _refused("Msg", {}, "{}")'
@@ -363,6 +363,9 @@ class Python(Language):
 
     # ---- statements
 
+    def struct_value(self, one):
+        return f"_is({one.name}, value, at)", [], ""
+
     def guarded(self, test, head, items, close, level=1):
         return [self.row(f"if {test}:", level), *self.statement(head, items, close, level + 1)]
 
@@ -401,8 +404,8 @@ class Python(Language):
 
     def written_map(self, struct):
         if not struct.fields:
-            return [self.row(self.struct_value.format(struct.name)), "    return {}"]
-        rows = [self.held(struct), "    entries: dict[str, Any] = {}"]
+            return [*self.held(struct, ""), "    return {}"]
+        rows = [*self.held(struct), "    entries: dict[str, Any] = {}"]
         for field in struct.fields:
             rows += self.put_entry(field)
         return [*rows, "    return entries"]

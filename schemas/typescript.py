@@ -32,10 +32,11 @@ function entriesOf(value: unknown, at: Place): Entries {
   return value as Entries;
 }
 
-/** The entries of a map that has no other keys. */
+/** The entries of a map that has no other keys; one that is undefined is none. */
 function fieldsOf(value: unknown, at: Place, ...keys: string[]): Entries {
   const entries = entriesOf(value, at);
-  const unknown = Object.keys(entries).find((key) => !keys.includes(key));
+  const isOther = (key: string): boolean => !keys.includes(key) && entries[key] !== undefined;
+  const unknown = Object.keys(entries).find(isOther);
   if (unknown !== undefined) throw refused('Msg', [...at, unknown], 'unknown field');
   return entries;
 }
@@ -181,6 +182,17 @@ function object<T>(value: unknown, at: Place): T {
   return entriesOf(value, at) as unknown as T;
 }
 
+/** The same, if it has no other properties: what they say would be lost. */
+function closed<T>(value: unknown, at: Place, ...names: string[]): T {
+  return fieldsOf(value, at, ...names) as unknown as T;
+}
+
+/** The same of a member of a union, once it is told. */
+function memberOf<T>(value: unknown, at: Place): T {
+  const isTold = typeof entriesOf(value, at)['kind'] === 'string';
+  return isTold ? closed(value, at, 'kind', 'value') : object(value, at);
+}
+
 function listOf<T>(item: Conversion<T>): Conversion<T[]> {
   return (value, at) => {
     if (!Array.isArray(value)) throw other('list', value, at);
@@ -275,7 +287,7 @@ class TypeScript(Language):
     function_head, function_end = "function {}(value: unknown, at: Place): {} {{", ["}"]
     let, let_two, let_list = "const {} = ", "const [{}, {}] = ", "const {}: Data[] = "
     number, path_of, length, added = "{}n", "[...at, {}]", "{}.length", "push"
-    struct_value, map_value = "object<{}>(value, at)", "entriesOf(value, at)"
+    map_value = "entriesOf(value, at)"
     has = {"entries": "has(entries, {})", "pairs": "pairs.has({})", "items": "items.length > {}"}
     is_there, absent = "held.{} !== {}", ("undefined", "undefined")
     choice_by, choice_end = "switch ({}) {{", ["    default:", "      {};", "  }}"]
@@ -373,6 +385,12 @@ class TypeScript(Language):
 
     # ---- statements
 
+    def struct_value(self, one):
+        helper, names = "closed", [self.quoted(self.field_name(field)) for field in getattr(one, "fields", ())]
+        if isinstance(one, Union) or one.open:
+            helper, names = "memberOf" if isinstance(one, Union) else "object", []
+        return f"{helper}<{one.name}>(", ["value", "at", *names], ")"
+
     def guarded(self, test, head, items, close, level=1):
         rows = self.statement(head, items, close, level)
         margin = " " * self.step * level
@@ -397,7 +415,7 @@ class TypeScript(Language):
 
     def written_map(self, struct):
         if not struct.fields:
-            return ["  entriesOf(value, at);", "  return {};"]
+            return [*self.held(struct, ""), "  return {};"]
         required, others = [], []
         for field in struct.fields:
             if may_lack(field):
@@ -405,7 +423,7 @@ class TypeScript(Language):
             else:
                 head = f"{self.property_name(field.key)}: {self.conversion(field.type, 'write')}("
                 required += self.call(4, head, [f"held.{self.field_name(field)}", self.path(self.quoted(field.key))], "),")
-        return [self.held(struct), *made_object("{ [key: string]: Data }", required, others, "entries")]
+        return [*self.held(struct), *made_object("{ [key: string]: Data }", required, others, "entries")]
 
     # -- enums and units
 

@@ -33,8 +33,20 @@ const madeOf = function* ({ place, bytes, numbers }, make) {
   }
 };
 
-const sectionsOf = async function* (walk, make) {
-  for await (const batch of walk.batches) for (const it of madeOf(batch, make)) yield it;
+const allIn = async function* (walk, make) {
+  try {
+    yield; // where it waits until it is asked, or ended
+    for await (const batch of walk.batches) for (const it of madeOf(batch, make)) yield it;
+  } finally {
+    await walk.batches.return();
+  }
+};
+
+// If they are ended before the first is asked for, the source is ended too.
+const sectionsOf = (walk, make) => {
+  const all = allIn(walk, make);
+  all.next();
+  return all;
 };
 
 const nameIn = (bytes, from, to) => cidOf(latin1(bytes, from, to));

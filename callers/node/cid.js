@@ -235,11 +235,13 @@ class CID {
 
 const cidOf = (binary) => new CID(binary, MADE);
 
-// The CID of this package that a value is.
+// The CID of this package that a value is, or whose binary form it has in `bytes`.
 const wantedCid = (value) => {
   const cid = CID.asCID(value);
-  if (cid === null) throw new TypeError('a CID is wanted');
-  return cid;
+  if (cid !== null) return cid;
+  const bytes = value?.bytes;
+  if (!isBytes(bytes)) throw new TypeError('a CID is wanted');
+  return new CID(bytes);
 };
 
 // The CIDs of packed names: a byte of its length before each.

@@ -52,7 +52,7 @@ let [narrow, wide] = ['', ''];
 
 const textAt = (i) => {
   if (words[i] === STRING) {
-    const made = texts(i / 3);
+    const made = texts(i / 3, words, block);
     if (words[i] === LATIN1) narrow = made;
     else wide = made;
   }

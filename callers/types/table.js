@@ -30,13 +30,21 @@ for (const line of lines) {
 assert.ok(lines.length > 50);
 
 // No item stands after one that is left out, and what is not a member is not written.
-const { Embed, Point, Units } = require(join(folder, 'forms'));
+const { Track } = require(join(folder, 'album'));
+const { Embed, Empty, Point, Units } = require(join(folder, 'forms'));
+const { StrongRef } = require(join(folder, 'atproto'));
 const gap = { x: 0n, y: null, z: 0, counts: {}, tags: [], t: 1 };
 const refusals = [
   [() => Point.encode(gap), 'Msg', [5]],
   [() => Embed.encode({ images: [] }), 'Msg', []],
   [() => Embed.encode({ kind: 'Images', value: { images: [gap] } }), 'Msg', ['images', 0, 5]],
   [() => Units.encode({ yes: false, nothing: null, empty: {} }), 'Msg', ['yes']],
+  // A property of another name would be lost: one whose name is misspelt, for example.
+  [() => Track.encode({ title: '', seconds: 1, notes: 'a' }), 'Msg', ['notes']],
+  [() => Embed.encode({ kind: 'External', value: { uri: '', note: '' }, note: '' }), 'Msg', ['note']],
+  [() => Embed.encode({ kind: 'External', value: { uri: '', note: '', notes: '' } }), 'Msg', ['notes']],
+  [() => Empty.encode({ a: null }), 'Msg', ['a']],
+  [() => Units.encode({ yes: true, nothing: null, empty: { ['__proto__']: 1 } }), 'Msg', ['empty', '__proto__']],
 ];
 for (const [write, kind, place] of refusals) {
   assert.throws(write, (error) => {
@@ -44,4 +52,8 @@ for (const [write, kind, place] of refusals) {
     return error instanceof DagCborError;
   });
 }
+const track = { title: '', seconds: 1 };
+assert.deepStrictEqual(Track.decode(Track.encode({ ...track, notes: undefined, [Symbol('a')]: 1 })), track);
+const ref = { uri: 'u', cid: 'c' }; // of an open type
+assert.deepStrictEqual(StrongRef.decode(StrongRef.encode({ ...ref, more: 1 })), ref);
 console.log(`${lines.length} blocks`);

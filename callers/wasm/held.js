@@ -94,6 +94,12 @@ export const hold = async (dagcbor, read) => {
     const { kind, place } = refusal(() => encode({ a: [it] }));
     same(`${['Unsupported', 'RequireUtf8'].includes(kind)} ${place}`, 'true a,0', String(kind));
   }
+  // What is no Proxy is not called one.
+  for (const it of [new Date(), new Set([1]), new Uint16Array(1), /a/, Object.assign(new Error(), { a: 1 }), Object(1)]) {
+    const { message } = refusal(() => encode(it));
+    same(message, 'an object that is no Array, Uint8Array, CID, Map or map', 'an object');
+  }
+  same(refusal(() => encode(new Proxy(new Date(), {}))).message, 'a Proxy of neither an Array nor a plain object', 'a Proxy');
 
   const leaf = encode({ b: 'hi' });
   const root = encode({ a: [name(leaf)] });

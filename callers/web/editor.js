@@ -12,6 +12,8 @@ const PAUSE = 120; // milliseconds without a key
 
 const HOW = 'Type DAG-JSON: keys are put in order, and the library spells and judges it.';
 const TOO_LONG_TO_EDIT = 'This block is too long to be edited: type another one.';
+const RESERVED_TO_EDIT = 'This block has a map with the key "/", which DAG-JSON keeps for links'
+  + ' and byte strings: it cannot be edited. Type another one.';
 
 // The block of DAG-JSON, its name and its kind.
 export const spelled = async (asker, text) => {
@@ -47,11 +49,11 @@ export class Editor {
       this.later = setTimeout(() => this.spell(), PAUSE);
     });
     this.show(null);
-    jsonOf(asker, block.bytes, true, MOST_EDITED).then(({ text, isWhole }) => {
-      if (isWhole) {
+    jsonOf(asker, block.bytes, true, MOST_EDITED).then(({ text, isWhole, isReserved }) => {
+      if (isWhole && !isReserved) {
         this.area.value = text;
         this.spell();
-      } else this.area.placeholder = TOO_LONG_TO_EDIT;
+      } else this.area.placeholder = isReserved ? RESERVED_TO_EDIT : TOO_LONG_TO_EDIT;
     });
   }
 

@@ -7,7 +7,7 @@ import { button, copier, download, make, withAttributes } from './dom.js';
 const MOST_JSON = 60_000; // characters that are shown
 
 const RESERVED = 'A map here has the key "/", which DAG-JSON keeps for links and byte strings:'
-  + ' read back it may be another block. ';
+  + ' read back it is refused, or another block. ';
 const CUT_OFF = `The first ${grouping(MOST_JSON)} characters. Copied and downloaded is all of it. `;
 
 export const jsonOf = (asker, bytes, indent, most) =>

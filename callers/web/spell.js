@@ -10,6 +10,7 @@ const SPACE = /[ \t\r\n]*/y;
 const NUMBER = /-?(0|[1-9][0-9]*)(\.[0-9]+)?([eE][+-]?[0-9]+)?/y;
 const STRING = /"(?:[^"\\\u0000-\u001f]|\\(?:["\\/bfnrt]|u[0-9a-fA-F]{4}))*"/y;
 const DEPTH = 1000;
+const SLASH = Uint8Array.of(0x2f);
 
 // The payloads, one after the other, and the tokens over them.
 export const tokensOf = (text) => {
@@ -145,10 +146,7 @@ class Reader {
       entries.push({ key, value: this.value(depth) });
     } while (this.take(','));
     if (!this.take('}')) this.fail('a map ends with }');
-    const [first] = entries;
-    if (entries.length === 1 && compared(first.key, Uint8Array.of(0x2f)) === 0) {
-      return this.reserved(first.value);
-    }
+    if (entries.some(({ key }) => compared(key, SLASH) === 0)) return this.reserved(entries);
     entries.sort((a, b) => compared(a.key, b.key));
     if (entries.some((it, n) => n && compared(entries[n - 1].key, it.key) === 0)) {
       this.fail('a key comes twice');
@@ -157,8 +155,9 @@ class Reader {
   }
 
   // {"/": "CID"} and {"/": {"bytes": "base64"}}
-  reserved(value) {
+  reserved([{ value }, other]) {
     const decoder = new TextDecoder();
+    if (other) this.fail('the key "/" is kept for links and byte strings');
     if (value.kind === TEXT) {
       const bytes = cidFrom(decoder.decode(value.bytes));
       if (typeof bytes === 'number') this.fail(`not the text of a CID: ${textFaultOf(bytes)}`);
@@ -167,8 +166,9 @@ class Reader {
     const [held, more] = value.kind === MAP ? value.entries : [];
     const isBytes = held && !more && decoder.decode(held.key) === 'bytes';
     if (isBytes && held.value.kind === TEXT) {
-      const bytes = fromBase64(decoder.decode(held.value.bytes));
-      if (!bytes) this.fail('no base64');
+      const text = decoder.decode(held.value.bytes);
+      const bytes = /[-_=]/.test(text) ? null : fromBase64(text); // not as pasted ones may be
+      if (!bytes) this.fail('no base64 without padding');
       return { kind: BYTES, bytes };
     }
     return this.fail('the key "/" alone is kept for links and byte strings');

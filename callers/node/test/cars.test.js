@@ -10,8 +10,8 @@ const { join } = require('path');
 const { Readable } = require('stream');
 const { test } = require('node:test');
 const {
-  CID, CarBlockIterator, CarBufferReader, CarError, CarIndexedReader, CarReader, CarWriter, DagCborError, checkCar,
-  encode, name,
+  CID, CarBlockIterator, CarBufferReader, CarCIDIterator, CarError, CarIndexedReader, CarIndexer, CarReader, CarWriter,
+  DagCborError, checkCar, encode, name,
 } = require('..');
 const { native } = require('../library.js');
 const { COLLECTING, SILENT } = require('./collecting.js');
@@ -323,6 +323,28 @@ test('a source is let go', async () => {
   await assert.rejects(() => CarReader.fromIterable(source(Buffer.of(1, 0x80))), CarError);
   await assert.rejects(() => checkCar(source(file, Buffer.of(0))), CarError);
   assert.strictEqual(left, 4);
+  for (const it of [CarBlockIterator, CarCIDIterator, CarIndexer]) {
+    const all = await it.fromIterable(source(file));
+    await all[Symbol.asyncIterator]().return(); // by one who wants the roots alone
+  }
+  assert.strictEqual(left, 7);
+});
+
+test('a section comes once its last byte is there', async () => {
+  const blocks = [1, 300, 60000].map((size) => encode(new Uint8Array(size)));
+  let taken = 0;
+  const source = async function* () {
+    yield HEADER;
+    for (const [i, it] of blocks.entries()) {
+      const bytes = section(Buffer.from(it));
+      yield bytes.subarray(0, -1);
+      yield bytes.subarray(-1);
+      assert.strictEqual(taken, i + 1);
+    }
+  };
+  for await (const { bytes } of await CarBlockIterator.fromIterable(source())) {
+    assert.deepStrictEqual(bytes, blocks[taken++]);
+  }
 });
 
 test('bytes that change meanwhile', async () => {

@@ -99,6 +99,27 @@ test('the module, where no addon loads', { skip: skipModule }, () => {
   });
 });
 
+test('the module keeps no memory of a large call', { skip: skipModule }, () => {
+  require('v8').setFlagsFromString('--experimental-wasm-memory64');
+  const { callsOf } = require('../wasm/dagcbor.js');
+  const calls = callsOf(new WebAssembly.Module(module_));
+  const sizeFor = (block) => calls.compactTape(block).buffer.byteLength;
+  const [small, count] = [Buffer.of(0xf6), 6e6];
+  const large = Buffer.concat([Buffer.of(0x9a, count >> 24, count >> 16, count >> 8, count), Buffer.alloc(count)]);
+  const least = sizeFor(small);
+  assert.ok(least < 1 << 26 && sizeFor(large) > 12 * count);
+  assert.strictEqual(sizeFor(small), least);
+});
+
+test('the module is given no more than the front of what is too long', () => {
+  const { nativeOf } = require('../wasm/native.js');
+  const given = [];
+  const note = ({ length }) => given.push(length) && -29;
+  const { cidText, cidFromText } = nativeOf({ cidText: note, cidFromText: note });
+  for (const call of [cidText, cidFromText]) for (const length of [9, 1e6]) call('b'.repeat(length));
+  assert.deepStrictEqual(given, [9, 100, 9, 256]);
+});
+
 test('npm compiles nothing where an addon loads', { skip }, () => {
   inCopy({ [PREBUILT]: addon }, (run, folder) => {
     assert.deepStrictEqual(run('build.js', '--install'), [0, '']);

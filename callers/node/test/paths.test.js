@@ -97,7 +97,10 @@ test('what is not the block of its name', async () => {
   await assert.rejects(resolve(() => long, named, ''), { kind: 'NonMinimal', place: 1 });
   assert.throws(() => find(encode(1), '\ud800'), { kind: 'RequireUtf8' });
   assert.throws(() => find(encode(1), 0), TypeError);
-  await assert.rejects(resolve(get, 'a text', ''), TypeError);
+  for (const it of ['a text', {}, { bytes: 'a text' }, null]) await assert.rejects(resolve(get, it, ''), TypeError);
+  await assert.rejects(resolve(get, { bytes: Uint8Array.of(1) }, ''), { kind: 'InvalidCid' });
+  // As the types have it: of a package whose CIDs say no more.
+  assert.strictEqual(await resolve(get, { bytes: of(leaf).bytes }, 'b'), 'hi');
   await assert.rejects(resolve(undefined, of(root), ''), TypeError);
 });
 

@@ -9,6 +9,7 @@ const LEAST = -23; // of verdicts on sections
 const HEADER = 11; // of a walk
 const WALK = 24; // bytes of a walk, which stand at this place of the front
 const ROOM_TOKENS = 1 << 20; // that are given room before they are counted
+const KEPT = 1 << 26; // bytes of memory that are kept for the next call
 const TOKENS = { size: 24 };
 const NOT_READ = 9;
 const OTHERS = -22; // bytes than those that are named
@@ -229,21 +230,23 @@ const instanceOf = (module) => {
   const { exports: calls } = new WebAssembly.Instance(module);
   const room = new Room(calls);
   const all = { ...answering(calls, room), ...walking(calls, room) };
-  return { ...all, heldIn: heldBy(all.verify) };
+  const isLarge = () => room.memory.buffer.byteLength > KEPT;
+  return { calls: { ...all, heldIn: heldBy(all.verify) }, isLarge };
 };
 
 // A call that is broken off, as where the stack is at its end, leaves its own stack behind: so the
-// next one gets another instance.
+// next one gets another instance. So it does after a call that took much memory, which does not
+// shrink. No call keeps anything for the next.
 const callsOf = (module) => {
   let made = instanceOf(module);
   const guarded = (name) => (...given) => {
-    const calls = made ?? instanceOf(module);
+    const instance = made ?? instanceOf(module);
     made = undefined;
-    const answer = calls[name](...given);
-    made = calls;
+    const answer = instance.calls[name](...given);
+    if (!instance.isLarge()) made = instance;
     return answer;
   };
-  return Object.fromEntries(Object.keys(made).map((name) => [name, guarded(name)]));
+  return Object.fromEntries(Object.keys(made.calls).map((name) => [name, guarded(name)]));
 };
 
 const load = async (module) =>

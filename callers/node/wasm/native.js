@@ -5,6 +5,7 @@ const { latin1, utf8 } = require('../platform.js');
 const { packed, walking } = require('./walk.js');
 
 const [LINK, WIDE, UTF8, ABSENT] = [7, 11, -8, 2 ** 32 - 1];
+const [CID_FRONT, TEXT_FRONT] = [100, 256]; // of what is too long the front is, likewise
 const encoder = new TextEncoder();
 
 const of = (call) => (...all) => call(...all.map(whole));
@@ -12,24 +13,17 @@ const of = (call) => (...all) => call(...all.map(whole));
 // A number of the library, or what is made of its other answers.
 const told = (answer, make) => (typeof answer === 'number' ? answer : make(answer));
 
-// The tokens of decode.js, where each text beyond ASCII is made by itself.
-const reading = (calls) => {
-  let [block, words] = [];
-  return {
-    kept: undefined,
-    read: of((bytes) => {
-      block = bytes;
-      words = calls.compactTape(bytes);
-      return words;
-    }),
-    texts: (i) => {
-      const from = words[3 * i + 2];
-      const text = utf8(block, from, from + words[3 * i + 1]);
-      words.set([WIDE, text.length, 0], 3 * i);
-      return text;
-    },
-  };
-};
+// The tokens of decode.js, where each text beyond ASCII is made by itself. Nothing is kept of them.
+const reading = (calls) => ({
+  kept: undefined,
+  read: of(calls.compactTape),
+  texts: (i, words, block) => {
+    const from = words[3 * i + 2];
+    const text = utf8(block, from, from + words[3 * i + 1]);
+    words.set([WIDE, text.length, 0], 3 * i);
+    return text;
+  },
+});
 
 // Puts a text, or the bytes that the units of a link are, and answers how many bytes.
 const putUnits = (kind, text, into) => {
@@ -75,8 +69,8 @@ const nativeOf = (calls) => ({
   toNode: of(calls.toNode),
   follow: of((block, path) => told(calls.follow(block, path), Object.values)),
   part: of((block, segment) => told(calls.part(block, segment), Object.values)),
-  cidText: (binary) => calls.cidText(fromLatin1(binary)),
-  cidFromText: (text) => told(calls.cidFromText(text), latin1),
+  cidText: (binary) => calls.cidText(fromLatin1(binary.slice(0, CID_FRONT))),
+  cidFromText: (text) => told(calls.cidFromText(text.slice(0, TEXT_FRONT)), latin1),
   ...walking(calls),
 });
 

@@ -6,6 +6,7 @@ const { latin1 } = require('../platform.js');
 const { unpacked } = require('./dagcbor.js');
 
 const [MORE, HEADER, OTHER_BYTES, LEAST, NOT_READ] = [10, 11, -22, -23, 9];
+const LARGE = 1 << 16; // bytes of what is cut, from which on it is not looked at for each piece
 
 // Names with a byte of length before each.
 const packed = (names) => joined(names.flatMap((it) => [[it.length], it]));
@@ -13,7 +14,7 @@ const packed = (names) => joined(names.flatMap((it) => [[it.length], it]));
 class Walk {
   constructor(calls, isCheck) {
     Object.assign(this, { calls, isCheck, walk: calls.carWalk(), roots: [] });
-    this.wanted = 0; // so many bytes are waited for: so what is cut is not looked at again and again
+    this.wanted = 0; // so many bytes are waited for
     this.names = new Map(); // whether a block of the name is held
     this.counts = new Float64Array(1 + NOT_READ - LEAST);
   }
@@ -43,7 +44,8 @@ class Walk {
     const { cause, codes, places, version } = found;
     if (cause === HEADER) this.want(this.roots = unpacked(found.links));
     else if (this.isCheck) this.take(bytes, found);
-    this.wanted = cause === MORE ? 2 * (bytes.length - Number(this.walk[0] - before)) : 0;
+    const left = bytes.length - Number(this.walk[0] - before);
+    this.wanted = cause === MORE && left >= LARGE ? 2 * left : 0;
     const numbersOf = (code, i) => [code, ...places.slice(3 * i, 3 * i + 3)];
     const numbers = Float64Array.from(this.isCheck ? [] : codes.flatMap(numbersOf));
     return [cause === HEADER ? 0 : cause, Number(this.walk[0]), version, numbers];

@@ -41,12 +41,13 @@ export const hasInside = (value) => {
   }
 };
 
-// No script can tell a Proxy here. What has no such object's inside, and yet inherits from one, is
-// taken for one.
+// No script can tell a Proxy here. What says that it is of no class, has no such object's inside, and
+// yet inherits from one, is taken for one.
 const CLASSES = [
   Boolean, Date, Error, Map, Number, RegExp, Set, String, Object.getPrototypeOf(Uint8Array),
 ];
-export const isProxy = (value) => CLASSES.some((it) => value instanceof it) && !isMap(value);
+export const isProxy = (value) =>
+  tagOf(value) === '[object Object]' && CLASSES.some((it) => value instanceof it) && !isMap(value);
 
 // A text with one unit for each byte.
 const MOST = 4096; // arguments

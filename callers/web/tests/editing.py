@@ -1,6 +1,7 @@
 """The editor: DAG-JSON to a block, at once."""
 
 import glob
+import json
 import os
 import time
 
@@ -10,6 +11,8 @@ from browser import By, Keys, same
 TYPE = """const it = document.querySelector('textarea.json'); it.value = arguments[0];
 it.dispatchEvent(new Event('input', { bubbles: true }));"""
 MADE = "document.querySelector('#spelled.is-good')"
+VECTORS = os.path.join(os.path.dirname(os.path.realpath(__file__)), "../../../conformance/vectors/dag-json.jsonl")
+FORMS = ("dag-json/link-", "dag-json/bytes-", "dag-json/reserved-", "dag-json/near-", "dag-json/repeated-")
 
 
 def there_and_back(page):
@@ -72,6 +75,37 @@ def reserved(page):
     return "one block of them"
 
 
+def kept(page):
+    """A block with a map that has the key / is not edited: its text is that of a link, of bytes, or of nothing."""
+    cid = named(b"\xf6")
+    octets = entries(**{"/": entries(bytes=text("AQID"))})
+    more = entries(**{"/": text(cid_text(cid)), "a": b"\x01"})
+    for block in (entries(**{"/": text(cid_text(cid))}), octets, entries(**{"/": b"\x01"}), b"\x81" + octets, more):
+        page.give_bytes(block)
+        page.tab("Edit")
+        page.wait("document.querySelector('textarea.json').placeholder.includes('the key \"/\"')")
+        same(page.js("return document.querySelector('textarea.json').value"), "", block.hex())
+        same(page.js(f"return Boolean({MADE})"), False, block.hex())
+    return "five that are not edited"
+
+
+def vectors(page):
+    """Forms of links, bytes and reserved keys, as the vectors of conformance/ say of them."""
+    with open(VECTORS, encoding="utf-8") as file:
+        rows = [it for it in map(json.loads, file) if it["id"].startswith(FORMS)]
+    page.give("a0")
+    page.tab("Edit")
+    for it in rows:
+        page.js(TYPE, "")
+        page.wait("document.querySelector('#spelled.hint')")
+        page.js(TYPE, it["text"])
+        page.wait("document.querySelector('#spelled.is-good, #spelled.is-bad')")
+        found = page.js("return document.querySelector('#spelled.is-good + .spelled .whole')?.textContent ?? ''")
+        same(found.replace(" ", ""), it.get("block", ""), it["text"])
+    assert len(rows) > 30
+    return f"{len(rows)} of them"
+
+
 def downloaded(page):
     """What is downloaded is the block that was typed, under its CID."""
     page.cdp("Browser.setDownloadBehavior", behavior="allow", downloadPath=page.folder)
@@ -92,4 +126,4 @@ def downloaded(page):
     return "the block"
 
 
-TESTS = [there_and_back, typed, reserved, downloaded]
+TESTS = [there_and_back, typed, reserved, kept, vectors, downloaded]

@@ -268,6 +268,7 @@ struct Writer {
     level: usize,
     payload: usize,      // where the last one begins
     entries: Vec<Entry>, // of the maps that are being written
+    is_broken: bool,     // within a part that was refused
 }
 
 impl Default for Writer {
@@ -277,6 +278,7 @@ impl Default for Writer {
             level: 0,
             payload: 0,
             entries: Vec::with_capacity(ROOM_OF_ENTRIES),
+            is_broken: false,
         }
     }
 }
@@ -293,7 +295,7 @@ impl Writer {
     fn clear(&mut self) {
         self.block.clear();
         self.entries.clear();
-        self.level = 0;
+        (self.level, self.is_broken) = (0, false);
     }
 
     #[inline]
@@ -420,8 +422,10 @@ pub struct Parts<'a> {
 }
 
 impl Parts<'_> {
-    /// Says where it is, in the data of the variant.
-    fn within_variant(&self, error: Error) -> Error {
+    /// Says where it is, in the data of the variant. A value that goes on after it has no block.
+    #[cold]
+    fn within_variant(&mut self, error: Error) -> Error {
+        self.writer.is_broken = true;
         match self.variant {
             Some(name) => error.within(name),
             None => error,
@@ -479,7 +483,11 @@ impl Parts<'_> {
         })
     }
 
-    fn finish(self) -> Result<(), Error> {
+    fn finish(mut self) -> Result<(), Error> {
+        if self.writer.is_broken {
+            let said = "the value goes on after a part that was refused";
+            return Err(Error::custom(said));
+        }
         self.writer.level -= 1 + usize::from(self.variant.is_some());
         if !are_in_order(&self.writer.entries[self.first..], &self.writer.block) {
             let sorted = self.writer.sort(self.first);

@@ -295,6 +295,35 @@ fn a_serializer_says_what_fails() {
     );
 }
 
+/// A type that goes on after an error of a part has no block, not one without the part.
+#[test]
+fn no_part_is_passed_over() {
+    use serde::ser::{SerializeMap, SerializeSeq};
+    struct Skips;
+    impl Serialize for Skips {
+        fn serialize<S: serde::Serializer>(&self, serializer: S) -> Result<S::Ok, S::Error> {
+            let mut list = serializer.serialize_seq(Some(3))?;
+            let _ = list.serialize_element(&(1, 0.5)); // which begins as a list of one does
+            list.serialize_element(&2)?;
+            list.serialize_element(&3)?;
+            list.end()
+        }
+    }
+    struct Held;
+    impl Serialize for Held {
+        fn serialize<S: serde::Serializer>(&self, serializer: S) -> Result<S::Ok, S::Error> {
+            let mut map = serializer.serialize_map(None)?;
+            let _ = map.serialize_entry("a", &Skips);
+            map.end()
+        }
+    }
+    assert!(to_vec(&Skips).is_err() && to_vec(&Held).is_err());
+    let mut serializer = Serializer::new(Vec::new());
+    assert!(Skips.serialize(&mut serializer).is_err());
+    [5].serialize(&mut serializer).unwrap();
+    assert_eq!(serializer.into_inner(), b"\x81\x05");
+}
+
 #[test]
 fn data_is_spelled() {
     let (cid, key, one) = (name(b"\xf6"), String::from("k"), Some(1));

@@ -295,6 +295,45 @@ fn a_serializer_says_what_fails() {
     );
 }
 
+/// Takes so many bytes, and then fails once.
+struct Failing(Vec<u8>, usize);
+
+impl Write for Failing {
+    fn write(&mut self, bytes: &[u8]) -> io::Result<usize> {
+        if self.1 == 0 {
+            self.1 = usize::MAX;
+            return Err(ErrorKind::TimedOut.into());
+        }
+        let count = bytes.len().min(self.1);
+        self.1 -= count;
+        self.0.write(&bytes[..count])
+    }
+
+    fn flush(&mut self) -> io::Result<()> {
+        Ok(())
+    }
+}
+
+/// What came after a part of a block would be read as the rest of it.
+#[test]
+fn no_block_comes_after_a_part_of_one() {
+    let mut serializer = Serializer::new(Failing(vec![], 3));
+    for value in [ipld!("hello"), ipld!([1]), ipld!(1)] {
+        let error = value.serialize(&mut serializer).unwrap_err();
+        assert_eq!(io::Error::from(error).kind(), ErrorKind::TimedOut);
+    }
+    assert_eq!(serializer.into_inner().0, b"\x65he");
+}
+
+#[test]
+fn a_block_is_flushed() {
+    let error = to_writer(io::BufWriter::new(Failing(vec![], 0)), &1).unwrap_err();
+    assert_eq!(io::Error::from(error).kind(), ErrorKind::TimedOut);
+    let mut out = io::BufWriter::new(Vec::new());
+    DagCborCodec::encode(&mut out, &1).unwrap();
+    assert_eq!(out.get_ref(), b"\x01");
+}
+
 /// A type that goes on after an error of a part has no block, not one without the part.
 #[test]
 fn no_part_is_passed_over() {

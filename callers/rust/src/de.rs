@@ -337,11 +337,12 @@ impl<R: BufRead> IoReader<R> {
 #[cfg(feature = "std")]
 impl<R: BufRead> Bytes for IoReader<R> {
     fn place(&self) -> usize {
-        self.place + self.block.len()
+        self.place + if self.is_given { self.block.len() } else { 0 }
     }
 
     fn have_more(&mut self) -> Result<bool, Error> {
-        Ok(has_more(&mut self.reader)?)
+        let is_begun = !self.is_given && !self.block.is_empty();
+        Ok(is_begun || has_more(&mut self.reader)?)
     }
 }
 

@@ -568,6 +568,42 @@ fn no_newtype_takes_a_link() {
     both(Record::Values(all), &record);
 }
 
+/// A newtype of a CID or of data is what is in it, also where it is held back.
+#[test]
+fn newtypes_of_links_are_links() {
+    #[derive(Clone, Debug, PartialEq, Serialize, Deserialize)]
+    struct To<T>(T);
+    #[derive(Debug, PartialEq, Serialize, Deserialize)]
+    #[serde(tag = "t")]
+    enum Record<T> {
+        Post { of: To<T> },
+    }
+    #[derive(Debug, PartialEq, Serialize, Deserialize)]
+    struct Flat<T> {
+        #[serde(flatten)]
+        rest: BTreeMap<String, Option<To<T>>>,
+    }
+    fn hold<T: Clone + Debug + PartialEq + Serialize + DeserializeOwned>(of: T, link: &[u8]) {
+        let of = To(of);
+        both(of.clone(), link);
+        let post = [b"\xa2\x61t\x64Post\x62of", link].concat();
+        both(Record::Post { of: of.clone() }, &post);
+        let rest = BTreeMap::from([("x".into(), Some(of))]);
+        both(Flat { rest }, &[b"\xa1\x61x", link].concat());
+    }
+    let cid = Cid::try_from(&b"\x01\x55\0\0"[..]).unwrap();
+    hold(cid, b"\xd8\x2a\x45\0\x01\x55\0\0");
+    hold(Some(cid), b"\xd8\x2a\x45\0\x01\x55\0\0");
+    hold(Ipld::from(cid), b"\xd8\x2a\x45\0\x01\x55\0\0");
+    hold(ipld!([cid]), b"\x81\xd8\x2a\x45\0\x01\x55\0\0");
+    hold(Ipld::Bytes(cid.to_bytes()), b"\x44\x01\x55\0\0");
+    for of in [&b"\x68bafkqaaa"[..], b"\x44\x01\x55\0\0"] {
+        let post = [b"\xa2\x61t\x64Post\x62of", of].concat();
+        assert!(from_slice::<Record<Cid>>(&post).is_err());
+        assert!(from_slice::<Flat<Cid>>(&[b"\xa1\x61x", of].concat()).is_err());
+    }
+}
+
 /// Serde's limit: the data of `ipld-core` takes a link that was held back by the same calls.
 #[test]
 fn a_newtype_in_a_newtype_takes_a_link() {
@@ -593,6 +629,11 @@ fn a_newtype_in_a_newtype_takes_a_link() {
     );
     assert!(from_slice::<Held<Inner<Bytes>, u8>>(link).is_err());
     assert!(from_slice::<Outer<Bytes>>(link).is_err());
+    assert!(from_slice::<Held<Outer<Cid>, u8>>(link).is_err());
+    assert_eq!(
+        from_slice::<Held<Outer<Ipld>, u8>>(link).unwrap(),
+        Held::First(Outer(Inner(Ipld::Bytes(cid.to_bytes()))))
+    );
 }
 
 #[test]

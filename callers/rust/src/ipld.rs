@@ -162,7 +162,12 @@ impl Serialize for Ipld {
         match self {
             Ipld::Null => serializer.serialize_unit(),
             Ipld::Bool(value) => serializer.serialize_bool(*value),
-            Ipld::Integer(n) => serializer.serialize_i128(*n),
+            // What holds a value back takes no 128 bits.
+            Ipld::Integer(n) => match (i64::try_from(*n), u64::try_from(*n)) {
+                (Ok(n), _) => serializer.serialize_i64(n),
+                (_, Ok(n)) => serializer.serialize_u64(n),
+                _ => serializer.serialize_i128(*n),
+            },
             Ipld::String(text) => serializer.serialize_str(text),
             Ipld::Bytes(bytes) => serializer.serialize_bytes(bytes),
             Ipld::List(list) => serializer.collect_seq(list),

@@ -662,6 +662,24 @@ fn other_fields_are_kept() {
     both(Note { text, rest }, &block.concat());
 }
 
+/// Fields of a variant are held back when they are written, too.
+#[test]
+fn data_in_a_variant_is_written() {
+    #[derive(Debug, PartialEq, Serialize, Deserialize)]
+    enum Shape {
+        Fields { data: Ipld },
+    }
+    #[derive(Debug, PartialEq, Serialize, Deserialize)]
+    struct Note {
+        #[serde(flatten)]
+        shape: Shape,
+    }
+    let data = ipld!([1, -2, i64::MIN, u64::MAX, name(b"\xf6"), { "a": null }]);
+    let block = [b"\xa1\x66Fields\xa1\x64data", &to_vec(&data).unwrap()[..]].concat();
+    let shape = Shape::Fields { data };
+    both(Note { shape }, &block);
+}
+
 /// CIDs as the crate `cid` reads and writes them, and data as `ipld-core` reads it.
 #[test]
 fn cids_of_other_crates() {

@@ -523,6 +523,60 @@ fn what_is_held_back_is_no_link_but_by_its_tag() {
     }
 }
 
+/// Limits of serde that the page has: none of these is so where nothing is held back.
+#[test]
+fn what_serde_takes_of_what_it_holds_back() {
+    #[derive(Debug, PartialEq, Deserialize)]
+    struct Pair {
+        x: u8,
+        y: u8,
+    }
+    /// As bytes of serde_bytes are.
+    #[derive(Debug, PartialEq)]
+    struct Loose(Vec<u8>);
+    impl<'de> Deserialize<'de> for Loose {
+        fn deserialize<D: Deserializer<'de>>(deserializer: D) -> Result<Loose, D::Error> {
+            struct Visitor;
+            impl<'de> serde::de::Visitor<'de> for Visitor {
+                type Value = Loose;
+                fn expecting(&self, f: &mut std::fmt::Formatter<'_>) -> std::fmt::Result {
+                    f.write_str("bytes")
+                }
+                fn visit_bytes<E>(self, bytes: &[u8]) -> Result<Loose, E> {
+                    Ok(Loose(bytes.to_vec()))
+                }
+                fn visit_str<E>(self, text: &str) -> Result<Loose, E> {
+                    Ok(Loose(text.into()))
+                }
+            }
+            deserializer.deserialize_byte_buf(Visitor)
+        }
+    }
+    #[derive(Debug, PartialEq, Deserialize)]
+    #[serde(untagged)]
+    enum Held<T> {
+        It(T),
+    }
+    fn held<T: DeserializeOwned>(block: &[u8]) -> Option<T> {
+        assert!(from_slice::<T>(block).is_err());
+        from_slice(block).ok().map(|Held::It(it)| it)
+    }
+    assert_eq!(held(b"\x82\x01\x02"), Some(Pair { x: 1, y: 2 }));
+    assert_eq!(held(b"\x62hi"), Some(Loose(b"hi".to_vec())));
+    let rounded = held(b"\x1b\0\x20\0\0\0\0\0\x01");
+    assert_eq!(rounded, Some((1u64 << 53) as f64));
+    assert!(from_slice::<Held<()>>(b"\xf6").is_err());
+    assert!(from_slice::<Held<Unit>>(b"\xf6").is_err());
+    assert!(from_slice::<Held<Option<u8>>>(b"\xf6").is_ok());
+    both(std::net::Ipv4Addr::new(1, 2, 3, 4), b"\x84\x01\x02\x03\x04");
+    assert!(from_slice::<Held<std::net::Ipv4Addr>>(b"\x84\x01\x02\x03\x04").is_err());
+
+    assert_eq!(to_vec(&Some(None::<u8>)).unwrap(), b"\xf6");
+    assert_eq!(from_slice::<Option<Option<u8>>>(b"\xf6").unwrap(), None);
+    assert_eq!(to_vec(&Some(())).unwrap(), b"\xf6");
+    assert_eq!(from_slice::<Option<()>>(b"\xf6").unwrap(), None);
+}
+
 /// A newtype as derive has it takes what is in a newtype that was held back, whatever its name.
 #[test]
 fn no_newtype_takes_a_link() {

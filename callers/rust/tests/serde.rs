@@ -397,6 +397,27 @@ fn depths_are_those_of_the_library() {
     assert_eq!(refused::<Ipld>(&block).0, Some(Refusal::DepthOverflow));
 }
 
+/// Of a build that is not optimized, too.
+#[test]
+fn a_megabyte_of_stack_is_enough() {
+    #[derive(Debug, PartialEq, Serialize, Deserialize)]
+    #[serde(untagged)]
+    enum Value {
+        Null,
+        All(Vec<Value>),
+        Named(BTreeMap<String, Value>),
+    }
+    let blocks = [&b"\x81"[..], b"\xa1\x61a"].map(|it| [&it.repeat(127), &b"\xf6"[..]].concat());
+    let thread = std::thread::Builder::new().stack_size(1 << 20);
+    let read_and_write = move || {
+        for block in blocks {
+            both(from_slice::<Ipld>(&block).unwrap(), &block);
+            both(from_slice::<Value>(&block).unwrap(), &block);
+        }
+    };
+    thread.spawn(read_and_write).unwrap().join().unwrap();
+}
+
 #[test]
 fn items_one_after_the_other() {
     let bytes = b"\xa1\x62op\x01\xa1\x61t\x62hi\x18";

@@ -1,9 +1,10 @@
 //! Types by serde: what is read and written of each shape, and where what is refused stands.
 #![cfg(feature = "serde")]
 
+use dagcbor::de::Deserializer as Blocks;
 use dagcbor::{
-    from_ipld, from_reader, from_slice, ipld, name, take_from_slice, to_vec, to_writer, Cid, Error,
-    Ipld, Refusal,
+    from_ipld, from_reader, from_reader_once, from_slice, ipld, name, take_from_slice, to_vec,
+    to_writer, Cid, Error, Ipld, Refusal,
 };
 use serde::de::{DeserializeOwned, IntoDeserializer};
 use serde::{Deserialize, Deserializer, Serialize, Serializer};
@@ -288,6 +289,48 @@ fn a_read_says_where() {
     struct Loop(#[allow(dead_code)] Option<Box<Loop>>);
     assert_eq!(refused::<Loop>(b"\x01"), (None, 0));
     assert!(from_slice::<Loop>(b"\xf6").is_ok());
+}
+
+/// What serde or a type says when the item is read already, too.
+#[test]
+fn what_is_said_late_has_a_place() {
+    #[derive(Debug, Deserialize)]
+    #[serde(try_from = "u8")]
+    struct Even(#[allow(dead_code)] u8);
+    impl TryFrom<u8> for Even {
+        type Error = &'static str;
+        fn try_from(n: u8) -> Result<Even, &'static str> {
+            (n % 2 == 0).then_some(Even(n)).ok_or("it is odd")
+        }
+    }
+    #[derive(Debug, Deserialize)]
+    #[serde(tag = "t")]
+    enum Tagged {
+        Of {
+            #[allow(dead_code)]
+            of: Cid,
+        },
+    }
+    assert_eq!(refused::<Even>(b"\x01"), (None, 0));
+    assert_eq!(refused::<Vec<Even>>(b"\x83\x02\x18\x18\x03"), (None, 4));
+    assert_eq!(
+        refused::<BTreeMap<String, Even>>(b"\xa2\x61a\x02\x61b\x03"),
+        (None, 6)
+    );
+    assert_eq!(refused::<Tagged>(b"\xa1\x61t\x62Of"), (None, 0));
+    assert_eq!(
+        refused::<(u8, Tagged)>(b"\x82\x01\xa2\x61t\x62Of\x62of\x01"),
+        (None, 2)
+    );
+    let mut stream = Blocks::from_slice(b"\x02\x81\x01").into_iter::<Even>();
+    assert!(stream.next().unwrap().is_ok());
+    assert_eq!(stream.next().unwrap().unwrap_err().place(), Some(1));
+    let mut stream = Blocks::from_slice(b"\x18\x18\x01").into_iter::<Even>();
+    assert!(stream.next().unwrap().is_ok());
+    let error = stream.next().unwrap().unwrap_err();
+    assert_eq!(error.to_string(), "it is odd, at 2");
+    let error = from_reader_once::<Even, _>(&b"\x01"[..]).unwrap_err();
+    assert_eq!(error.place(), Some(0));
 }
 
 #[test]

@@ -57,9 +57,9 @@ impl From<CarRefused> for CarError {
 }
 
 /// The sections of a CAR file (version 1 or 2) that a reader gives, one after the
-/// other. At most one is in memory beside a piece of 64 KB, and no memory is reserved from a
-/// length that the file announces. A refusal comes once, and nothing after it; after an error
-/// of the reader the next call goes on.
+/// other. At most one is in memory, beside the copy that is given and a piece of 64 KB, and no memory
+/// is reserved from a length that the file announces. A refusal comes once, and nothing after it;
+/// after an error of the reader the next call goes on.
 #[derive(Debug)]
 pub struct CarReader<R> {
     reader: BufReader<R>,

@@ -15,11 +15,11 @@ struct Counted;
 unsafe impl GlobalAlloc for Counted {
     unsafe fn alloc(&self, layout: Layout) -> *mut u8 {
         let _ = ASKED.try_with(|it| it.set(it.get() + layout.size()));
-        unsafe { System.alloc(layout) }
+        System.alloc(layout)
     }
 
     unsafe fn dealloc(&self, at: *mut u8, layout: Layout) {
-        unsafe { System.dealloc(at, layout) }
+        System.dealloc(at, layout)
     }
 }
 

@@ -160,6 +160,11 @@ fn what_the_block_lends() {
     let lent: Lent = from_slice(block).unwrap();
     assert_eq!(lent.text.as_ptr(), block[7..].as_ptr());
     assert_eq!(lent.bytes.as_ptr(), block[16..].as_ptr());
+    let list = to_vec(&lent.bytes).unwrap(); // as serde writes it
+    assert_eq!(
+        (&list[..], refused::<Bytes>(&list)),
+        (&b"\x81\x07"[..], (None, 0))
+    );
 }
 
 #[test]

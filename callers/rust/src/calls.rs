@@ -81,9 +81,12 @@ pub const MOST_OF_CID: usize = 86;
 /// The number that says that a path leads nowhere.
 const NO_SUCH_PATH: i32 = -36;
 
-/// The room, in tokens, that is taken before they are counted.
+/// The room, in tokens, that is taken before they are counted: for a block, and for the first of
+/// many items.
 #[cfg(feature = "alloc")]
 const FEW_TOKENS: usize = 1 << 16;
+#[cfg(feature = "alloc")]
+const FEW_OF_FIRST: usize = 1 << 8;
 
 /// Returns the kind of a block, exactly if the bytes are one.
 pub fn check(block: &[u8]) -> Result<Kind, Refused> {
@@ -185,7 +188,7 @@ impl<'a> Tape<'a> {
 /// The tokens of a block.
 #[cfg(feature = "alloc")]
 pub fn tape(block: &[u8]) -> Result<Tape<'_>, Refused> {
-    match tokens_of(block) {
+    match tokens_of(block, FEW_TOKENS) {
         (Ok(_), tape, _) => Ok(tape),
         (Err(refusal), _, place) => Err(refusal.at(place)),
     }
@@ -199,7 +202,7 @@ pub fn tape(block: &[u8]) -> Result<Tape<'_>, Refused> {
 /// ```
 #[cfg(feature = "alloc")]
 pub fn take_tape(bytes: &[u8]) -> Result<(Tape<'_>, &[u8]), Refused> {
-    match tokens_of(bytes) {
+    match tokens_of(bytes, FEW_OF_FIRST) {
         (Ok(_) | Err(Refusal::TrailingData), tape, end) => Ok((tape, &bytes[end..])),
         (Err(refusal), _, place) => Err(refusal.at(place)),
     }
@@ -207,9 +210,9 @@ pub fn take_tape(bytes: &[u8]) -> Result<(Tape<'_>, &[u8]), Refused> {
 
 /// The verdict on the bytes, and its place; and the tokens before that place.
 #[cfg(feature = "alloc")]
-fn tokens_of(block: &[u8]) -> (Result<Kind, Refusal>, Tape<'_>, usize) {
+fn tokens_of(block: &[u8], few: usize) -> (Result<Kind, Refusal>, Tape<'_>, usize) {
     let mut place = 0;
-    let (tokens, code) = filled(block.len().min(FEW_TOKENS), |tape, needed| {
+    let (tokens, code) = filled(block.len().min(few), |tape, needed| {
         dagcbor_tokens(block, tape, needed, &mut place)
     });
     (answer_of(code, 0), Tape { block, tokens }, place)

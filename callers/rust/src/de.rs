@@ -81,7 +81,8 @@ pub fn from_reader<T: DeserializeOwned, R: io::Read>(mut reader: R) -> Result<T,
 /// ```
 #[cfg(feature = "std")]
 pub fn from_reader_once<T: DeserializeOwned, R: BufRead>(reader: R) -> Result<T, Error> {
-    T::deserialize(&mut Deserializer::from_reader(reader))
+    let value = T::deserialize(&mut Deserializer::from_reader(reader));
+    value.map_err(|it| it.or_at(0))
 }
 
 /// The values of the blocks that a reader gives, one after the other, up to its end.
@@ -108,7 +109,7 @@ fn read_by<'de, T>(
     read: impl FnOnce(&mut Reader<'de>) -> Result<T, Error>,
 ) -> Result<T, Error> {
     let mut reader = Reader::new(block);
-    let value = read(&mut reader)?;
+    let value = read(&mut reader).map_err(|it| it.or_at(0))?;
     if !reader.rest.is_empty() {
         return Err(Error::custom("the type leaves bytes").or_at(reader.place()));
     }
@@ -210,8 +211,9 @@ impl<S: Bytes, T> StreamDeserializer<S, T> {
         if self.is_over {
             return None;
         }
+        let place = self.blocks.source.place();
         let value = match self.blocks.source.have_more() {
-            Ok(true) => read(&mut self.blocks),
+            Ok(true) => read(&mut self.blocks).map_err(|it| it.or_at(place)),
             Ok(false) => return None,
             Err(error) => Err(error),
         };
@@ -337,11 +339,12 @@ impl<R: BufRead> IoReader<R> {
 #[cfg(feature = "std")]
 impl<R: BufRead> Bytes for IoReader<R> {
     fn place(&self) -> usize {
-        self.place + self.block.len()
+        self.place + if self.is_given { self.block.len() } else { 0 }
     }
 
     fn have_more(&mut self) -> Result<bool, Error> {
-        Ok(has_more(&mut self.reader)?)
+        let is_begun = !self.is_given && !self.block.is_empty();
+        Ok(is_begun || has_more(&mut self.reader)?)
     }
 }
 
@@ -707,11 +710,19 @@ struct Parts<'a, 'de> {
 impl<'de> Parts<'_, 'de> {
     #[inline]
     fn next<S: DeserializeSeed<'de>>(&mut self, seed: S) -> Result<Option<S::Value>, Error> {
-        if self.left == 0 {
-            return Ok(None);
+        match self.left {
+            0 => Ok(None),
+            _ => self.part(seed).map(Some),
         }
+    }
+
+    /// The next part. What is said of it without a place, as of what was held back, gets its place.
+    #[inline]
+    fn part<S: DeserializeSeed<'de>>(&mut self, seed: S) -> Result<S::Value, Error> {
+        let place = self.reader.place();
         self.left -= 1;
-        seed.deserialize(&mut *self.reader).map(Some)
+        let part = seed.deserialize(&mut *self.reader);
+        part.map_err(|it| it.or_at(place))
     }
 }
 
@@ -750,8 +761,7 @@ impl<'de> de::MapAccess<'de> for &mut Parts<'_, 'de> {
         if self.left % 2 == 0 {
             return Err(Error::custom("the type passes a key").or_at(self.reader.place()));
         }
-        self.left -= 1;
-        seed.deserialize(&mut *self.reader)
+        self.part(seed)
     }
 
     fn size_hint(&self) -> Option<usize> {

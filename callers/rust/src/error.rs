@@ -51,9 +51,13 @@ impl Error {
         self.0.path.iter().rev().map(String::as_str)
     }
 
-    /// With this place, if it has none.
+    /// With this place, if it has none and is not that of a reader.
     pub(crate) fn or_at(mut self, place: usize) -> Error {
-        self.0.place.get_or_insert(place);
+        match self.0.cause {
+            #[cfg(feature = "std")]
+            Cause::Io(_) => {}
+            _ => self.0.place = self.0.place.or(Some(place)),
+        }
         self
     }
 

@@ -5,9 +5,7 @@ use crate::{to_vec, Cid, Error};
 use alloc::{collections::BTreeMap, string::String, string::ToString, vec::Vec};
 use core::fmt;
 use serde::de::value::{MapAccessDeserializer, SeqAccessDeserializer};
-use serde::de::{
-    self, Deserialize, DeserializeOwned, Deserializer, MapAccess, SeqAccess, Unexpected, Visitor,
-};
+use serde::de::{self, Deserialize, DeserializeOwned, Deserializer, MapAccess, SeqAccess, Visitor};
 use serde::ser::{Serialize, Serializer};
 
 /// The data of a block.
@@ -164,7 +162,12 @@ impl Serialize for Ipld {
         match self {
             Ipld::Null => serializer.serialize_unit(),
             Ipld::Bool(value) => serializer.serialize_bool(*value),
-            Ipld::Integer(n) => serializer.serialize_i128(*n),
+            // What holds a value back takes no 128 bits.
+            Ipld::Integer(n) => match (i64::try_from(*n), u64::try_from(*n)) {
+                (Ok(n), _) => serializer.serialize_i64(n),
+                (_, Ok(n)) => serializer.serialize_u64(n),
+                _ => serializer.serialize_i128(*n),
+            },
             Ipld::String(text) => serializer.serialize_str(text),
             Ipld::Bytes(bytes) => serializer.serialize_bytes(bytes),
             Ipld::List(list) => serializer.collect_seq(list),
@@ -251,11 +254,16 @@ impl Serialize for AsBytes<'_> {
 }
 
 impl<'de> Deserialize<'de> for Cid {
+    /// What serde holds back, as for an untagged enum, it says to be for people.
     fn deserialize<D: Deserializer<'de>>(deserializer: D) -> Result<Cid, D::Error> {
+        if deserializer.is_human_readable() && is_of_a_block::<D::Error>() {
+            return deserializer.deserialize_any(OfHeldLink);
+        }
         deserializer.deserialize_newtype_struct(CID_NAME, OfCid)
     }
 }
 
+/// Takes the bytes of a link, in whatever newtypes; and a text, of a format for people.
 struct OfCid;
 
 impl<'de> Visitor<'de> for OfCid {
@@ -265,10 +273,9 @@ impl<'de> Visitor<'de> for OfCid {
         f.write_str("a CID")
     }
 
-    /// What serde holds back, as for an untagged enum, it says to be for people.
     fn visit_newtype_struct<D: Deserializer<'de>>(self, deserializer: D) -> Result<Cid, D::Error> {
         if deserializer.is_human_readable() {
-            return deserializer.deserialize_any(OfHeldCid);
+            return deserializer.deserialize_any(self);
         }
         deserializer.deserialize_bytes(self)
     }
@@ -282,11 +289,11 @@ impl<'de> Visitor<'de> for OfCid {
     }
 }
 
-/// Takes a CID from a format for people, as a text, or from what serde held back: if that is from a
-/// block, a newtype in a newtype, and no text and no bytes.
-struct OfHeldCid;
+/// Takes a link of a block that serde held back: a newtype in a newtype, of which a newtype around
+/// the CID has taken one. No other item is one, so a text or bytes are no link.
+struct OfHeldLink;
 
-impl<'de> Visitor<'de> for OfHeldCid {
+impl<'de> Visitor<'de> for OfHeldLink {
     type Value = Cid;
 
     fn expecting(&self, f: &mut fmt::Formatter<'_>) -> fmt::Result {
@@ -294,21 +301,7 @@ impl<'de> Visitor<'de> for OfHeldCid {
     }
 
     fn visit_newtype_struct<D: Deserializer<'de>>(self, link: D) -> Result<Cid, D::Error> {
-        link.deserialize_bytes(OfCid)
-    }
-
-    fn visit_bytes<E: de::Error>(self, bytes: &[u8]) -> Result<Cid, E> {
-        if is_of_a_block::<E>() {
-            return Err(E::invalid_type(Unexpected::Bytes(bytes), &self));
-        }
-        OfCid.visit_bytes(bytes)
-    }
-
-    fn visit_str<E: de::Error>(self, text: &str) -> Result<Cid, E> {
-        if is_of_a_block::<E>() {
-            return Err(E::invalid_type(Unexpected::Str(text), &self));
-        }
-        OfCid.visit_str(text)
+        OfCid.visit_newtype_struct(link)
     }
 }
 

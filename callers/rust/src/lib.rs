@@ -23,7 +23,8 @@
 //! Without the feature `alloc`, which `std` brings, there are only the calls that take room:
 //! [`tape_into`], [`links_into`] and [`spell_into`].
 //!
-//! A thread needs 128 KB of stack for a call, and the processor is an x86-64-v2.
+//! A thread needs 128 KB of stack for a call, and 1 MB for one that reads or writes an `Ipld` or
+//! another type that nests. The processor is an x86-64-v2.
 
 #![cfg_attr(not(feature = "std"), no_std)]
 #![warn(missing_docs, unsafe_op_in_unsafe_fn)]

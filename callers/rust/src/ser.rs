@@ -6,7 +6,7 @@ use alloc::{string::String, vec::Vec};
 use core::{cmp::Ordering, ops::Range};
 use serde::ser::{self, Error as _, Serialize};
 #[cfg(feature = "std")]
-use std::io::Write;
+use {crate::streams::Whole, std::io::Write};
 
 /// The most lists and maps that may be around a value.
 const MOST_LEVELS: usize = 127;
@@ -52,14 +52,18 @@ pub fn to_vec<T: Serialize + ?Sized>(value: &T) -> Result<Vec<u8>, Error> {
     }
 }
 
-/// Writes the block of a value: nothing, if the value has none.
+/// Writes the block of a value: nothing, if the value has none. It flushes the writer, because one
+/// that ends here, such as a `BufWriter`, would hide an error.
 #[cfg(feature = "std")]
 pub fn to_writer<W: Write, T: Serialize + ?Sized>(writer: W, value: &T) -> Result<(), Error> {
-    value.serialize(&mut Serializer::new(writer))
+    let mut serializer = Serializer::new(writer);
+    value.serialize(&mut serializer)?;
+    Ok(serializer.out.flush()?)
 }
 
 /// Writes blocks one after the other: each when it is whole and judged, and nothing of a value that
-/// has none.
+/// has none. After an error of the writer, a part of a block may be written: each later call returns
+/// an error of that kind, and writes nothing.
 ///
 /// ```
 /// use dagcbor::ser::Serializer;
@@ -75,7 +79,7 @@ pub fn to_writer<W: Write, T: Serialize + ?Sized>(writer: W, value: &T) -> Resul
 #[cfg(feature = "std")]
 #[derive(Debug)]
 pub struct Serializer<W> {
-    out: W,
+    out: Whole<W>,
     writer: Writer,
 }
 
@@ -83,13 +87,13 @@ pub struct Serializer<W> {
 impl<W> Serializer<W> {
     /// One that writes to the writer.
     pub fn new(writer: W) -> Serializer<W> {
-        let (out, writer) = (writer, Writer::default());
+        let (out, writer) = (Whole::new(writer), Writer::default());
         Serializer { out, writer }
     }
 
-    /// The writer, with all handed over to it.
+    /// The writer, with all handed over to it, and not flushed.
     pub fn into_inner(self) -> W {
-        self.out
+        self.out.writer
     }
 }
 
@@ -268,6 +272,7 @@ struct Writer {
     level: usize,
     payload: usize,      // where the last one begins
     entries: Vec<Entry>, // of the maps that are being written
+    is_broken: bool,     // within a part that was refused
 }
 
 impl Default for Writer {
@@ -277,6 +282,7 @@ impl Default for Writer {
             level: 0,
             payload: 0,
             entries: Vec::with_capacity(ROOM_OF_ENTRIES),
+            is_broken: false,
         }
     }
 }
@@ -293,7 +299,7 @@ impl Writer {
     fn clear(&mut self) {
         self.block.clear();
         self.entries.clear();
-        self.level = 0;
+        (self.level, self.is_broken) = (0, false);
     }
 
     #[inline]
@@ -420,8 +426,10 @@ pub struct Parts<'a> {
 }
 
 impl Parts<'_> {
-    /// Says where it is, in the data of the variant.
-    fn within_variant(&self, error: Error) -> Error {
+    /// Says where it is, in the data of the variant. A value that goes on after it has no block.
+    #[cold]
+    fn within_variant(&mut self, error: Error) -> Error {
+        self.writer.is_broken = true;
         match self.variant {
             Some(name) => error.within(name),
             None => error,
@@ -479,7 +487,11 @@ impl Parts<'_> {
         })
     }
 
-    fn finish(self) -> Result<(), Error> {
+    fn finish(mut self) -> Result<(), Error> {
+        if self.writer.is_broken {
+            let said = "the value goes on after a part that was refused";
+            return Err(Error::custom(said));
+        }
         self.writer.level -= 1 + usize::from(self.variant.is_some());
         if !are_in_order(&self.writer.entries[self.first..], &self.writer.block) {
             let sorted = self.writer.sort(self.first);

@@ -57,9 +57,9 @@ impl From<CarRefused> for CarError {
 }
 
 /// The sections of a CAR file (version 1 or 2) that a reader gives, one after the
-/// other. At most one is in memory beside a piece of 64 KB, and no memory is reserved from a
-/// length that the file announces. A refusal comes once, and nothing after it; after an error
-/// of the reader the next call goes on.
+/// other. At most one is in memory, beside the copy that is given and a piece of 64 KB, and no memory
+/// is reserved from a length that the file announces. A refusal comes once, and nothing after it;
+/// after an error of the reader the next call goes on.
 #[derive(Debug)]
 pub struct CarReader<R> {
     reader: BufReader<R>,
@@ -171,6 +171,43 @@ pub(crate) fn has_more(reader: &mut impl BufRead) -> io::Result<bool> {
     }
 }
 
+/// A writer that is asked for nothing after an error: a part of what it got may be written.
+#[derive(Debug)]
+pub(crate) struct Whole<W> {
+    pub(crate) writer: W,
+    failed: Option<ErrorKind>,
+}
+
+impl<W> Whole<W> {
+    pub(crate) fn new(writer: W) -> Self {
+        let failed = None;
+        Whole { writer, failed }
+    }
+
+    fn ask<T>(&mut self, ask: impl FnOnce(&mut W) -> io::Result<T>) -> io::Result<T> {
+        if let Some(kind) = self.failed {
+            return Err(kind.into());
+        }
+        let answer = ask(&mut self.writer);
+        self.failed = answer.as_ref().err().map(io::Error::kind);
+        answer
+    }
+}
+
+impl<W: Write> Write for Whole<W> {
+    fn write(&mut self, bytes: &[u8]) -> io::Result<usize> {
+        self.writer.write(bytes)
+    }
+
+    fn write_all(&mut self, bytes: &[u8]) -> io::Result<()> {
+        self.ask(|it| it.write_all(bytes))
+    }
+
+    fn flush(&mut self) -> io::Result<()> {
+        self.ask(|it| it.flush())
+    }
+}
+
 /// Writes a CAR file of version 1.
 ///
 /// ```
@@ -185,19 +222,19 @@ pub(crate) fn has_more(reader: &mut impl BufRead) -> io::Result<bool> {
 /// ```
 #[derive(Debug)]
 pub struct CarWriter<W> {
-    writer: W,
+    writer: Whole<W>,
     section: Vec<u8>,
 }
 
 impl<W: Write> CarWriter<W> {
     /// Writes the header.
-    pub fn new(mut writer: W, roots: &[Cid]) -> io::Result<Self> {
+    pub fn new(writer: W, roots: &[Cid]) -> io::Result<Self> {
         let mut items = vec![Item::Map(2), Item::Text("roots")];
         items.push(Item::List(roots.len() as u64));
         items.extend(roots.iter().copied().map(Item::Link));
         items.extend([Item::Text("version"), Item::Integer(1)]);
         let header = spell(&items).map_err(|it| io::Error::new(ErrorKind::InvalidInput, it))?;
-        let mut section = Vec::new();
+        let (mut writer, mut section) = (Whole::new(writer), Vec::new());
         put_length_and(&mut section, &[&header]);
         writer.write_all(&section)?;
         Ok(CarWriter { writer, section })
@@ -205,7 +242,8 @@ impl<W: Write> CarWriter<W> {
 
     /// Writes a block under its name, and returns its verdict. Bytes that are not
     /// those of the CID are refused. After an error of the writer, a part of the
-    /// section may be written, so the file is of no more use.
+    /// section may be written, so the file is of no more use: each later call
+    /// returns an error of that kind, and writes nothing.
     pub fn write(&mut self, cid: &Cid, block: &[u8]) -> Result<Verdict, CarError> {
         let verdict = verify(cid, block);
         if verdict == Verdict::OtherBytes {
@@ -216,9 +254,15 @@ impl<W: Write> CarWriter<W> {
         Ok(verdict)
     }
 
-    /// The writer, with all handed over to it.
+    /// Flushes the writer, and returns it.
+    pub fn finish(mut self) -> io::Result<W> {
+        self.writer.flush()?;
+        Ok(self.into_inner())
+    }
+
+    /// The writer, with all handed over to it, and not flushed.
     pub fn into_inner(self) -> W {
-        self.writer
+        self.writer.writer
     }
 }
 

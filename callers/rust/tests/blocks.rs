@@ -166,19 +166,22 @@ fn items_are_taken_one_by_one() -> Result<(), Error> {
     Ok(())
 }
 
+/// Gives these one after the other, the last first, and fails once for each that is empty.
+struct Halves<'a>(Vec<&'a [u8]>);
+
+impl Read for Halves<'_> {
+    fn read(&mut self, room: &mut [u8]) -> io::Result<usize> {
+        match self.0.pop() {
+            Some(b"") => Err(ErrorKind::WouldBlock.into()),
+            Some(mut half) => half.read(room),
+            None => Ok(0),
+        }
+    }
+}
+
 /// A reader that fails in the middle of a block may go on.
 #[test]
 fn readers_go_on() {
-    struct Halves<'a>(Vec<&'a [u8]>);
-    impl Read for Halves<'_> {
-        fn read(&mut self, room: &mut [u8]) -> io::Result<usize> {
-            match self.0.pop() {
-                Some(b"") => Err(ErrorKind::WouldBlock.into()),
-                Some(mut half) => half.read(room),
-                None => Ok(0),
-            }
-        }
-    }
     let halves = Halves(vec![b"i", b"", b"\x62h", b"\x82\x18", b""]);
     let mut deserializer = Deserializer::from_reader(BufReader::new(halves));
     let first = <(u8, String)>::deserialize(&mut deserializer);
@@ -189,6 +192,40 @@ fn readers_go_on() {
     assert!(<(u8, String)>::deserialize(&mut deserializer).is_err());
     let read = <(u8, String)>::deserialize(&mut deserializer).unwrap();
     assert_eq!(read, (24, "hi".into()));
+}
+
+/// What was read of a block that is not given still follows, and at the place where it begins.
+#[test]
+fn no_front_of_a_block_is_an_end() {
+    let cut = |halves| {
+        let mut cut = Deserializer::from_reader(BufReader::new(Halves(halves)));
+        assert_eq!(u8::deserialize(&mut cut).unwrap(), 1);
+        assert_eq!(
+            told(String::deserialize(&mut cut).unwrap_err()),
+            (None, None)
+        );
+        cut
+    };
+    let mut cut_short = cut(vec![b"", b"\x01\x62h"]);
+    let error = cut_short.end().unwrap_err();
+    assert_eq!(told(error), (Some(Refusal::TrailingData), Some(1)));
+    let error = cut_short.into_iter::<String>().next().unwrap().unwrap_err();
+    assert_eq!(told(error), (Some(Refusal::Eof), Some(3)));
+    let mut rest = cut(vec![b"i\x61a", b"", b"\x01\x62h"]).into_iter::<String>();
+    assert_eq!(rest.next().unwrap().unwrap(), "hi");
+    assert_eq!(rest.next().unwrap().unwrap(), "a");
+    assert!(rest.next().is_none());
+
+    let bytes = b"\x01\x82\x18\x17";
+    let mut of_reader = Deserializer::from_reader(&bytes[..]);
+    let mut of_slice = Deserializer::from_slice(bytes);
+    assert_eq!(u8::deserialize(&mut of_reader).unwrap(), 1);
+    assert_eq!(u8::deserialize(&mut of_slice).unwrap(), 1);
+    assert!(Ipld::deserialize(&mut of_reader).is_err());
+    assert!(Ipld::deserialize(&mut of_slice).is_err());
+    let wanted = (Some(Refusal::TrailingData), Some(1));
+    assert_eq!(told(of_reader.end().unwrap_err()), wanted);
+    assert_eq!(told(of_slice.end().unwrap_err()), wanted);
 }
 
 #[derive(Serialize)]
@@ -293,6 +330,74 @@ fn a_serializer_says_what_fails() {
         (error.path().collect::<Vec<_>>(), out),
         (vec!["a", "1"], vec![])
     );
+}
+
+/// Takes so many bytes, and then fails once.
+struct Failing(Vec<u8>, usize);
+
+impl Write for Failing {
+    fn write(&mut self, bytes: &[u8]) -> io::Result<usize> {
+        if self.1 == 0 {
+            self.1 = usize::MAX;
+            return Err(ErrorKind::TimedOut.into());
+        }
+        let count = bytes.len().min(self.1);
+        self.1 -= count;
+        self.0.write(&bytes[..count])
+    }
+
+    fn flush(&mut self) -> io::Result<()> {
+        Ok(())
+    }
+}
+
+/// What came after a part of a block would be read as the rest of it.
+#[test]
+fn no_block_comes_after_a_part_of_one() {
+    let mut serializer = Serializer::new(Failing(vec![], 3));
+    for value in [ipld!("hello"), ipld!([1]), ipld!(1)] {
+        let error = value.serialize(&mut serializer).unwrap_err();
+        assert_eq!(io::Error::from(error).kind(), ErrorKind::TimedOut);
+    }
+    assert_eq!(serializer.into_inner().0, b"\x65he");
+}
+
+#[test]
+fn a_block_is_flushed() {
+    let error = to_writer(io::BufWriter::new(Failing(vec![], 0)), &1).unwrap_err();
+    assert_eq!(io::Error::from(error).kind(), ErrorKind::TimedOut);
+    let mut out = io::BufWriter::new(Vec::new());
+    DagCborCodec::encode(&mut out, &1).unwrap();
+    assert_eq!(out.get_ref(), b"\x01");
+}
+
+/// A type that goes on after an error of a part has no block, not one without the part.
+#[test]
+fn no_part_is_passed_over() {
+    use serde::ser::{SerializeMap, SerializeSeq};
+    struct Skips;
+    impl Serialize for Skips {
+        fn serialize<S: serde::Serializer>(&self, serializer: S) -> Result<S::Ok, S::Error> {
+            let mut list = serializer.serialize_seq(Some(3))?;
+            let _ = list.serialize_element(&(1, 0.5)); // which begins as a list of one does
+            list.serialize_element(&2)?;
+            list.serialize_element(&3)?;
+            list.end()
+        }
+    }
+    struct Held;
+    impl Serialize for Held {
+        fn serialize<S: serde::Serializer>(&self, serializer: S) -> Result<S::Ok, S::Error> {
+            let mut map = serializer.serialize_map(None)?;
+            let _ = map.serialize_entry("a", &Skips);
+            map.end()
+        }
+    }
+    assert!(to_vec(&Skips).is_err() && to_vec(&Held).is_err());
+    let mut serializer = Serializer::new(Vec::new());
+    assert!(Skips.serialize(&mut serializer).is_err());
+    [5].serialize(&mut serializer).unwrap();
+    assert_eq!(serializer.into_inner(), b"\x81\x05");
 }
 
 #[test]

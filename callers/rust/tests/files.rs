@@ -1,9 +1,9 @@
 //! CAR files, over the vectors of all callers: in memory, and by readers that give few bytes.
 
 use dagcbor::{
-    name, Car, CarError, CarReader, CarRefusal, CarRefused, Cid, Kind, Refusal, Verdict,
+    name, Car, CarError, CarReader, CarRefusal, CarRefused, CarWriter, Cid, Kind, Refusal, Verdict,
 };
-use std::io::{self, ErrorKind, Read};
+use std::io::{self, BufWriter, ErrorKind, Read, Write};
 
 fn hex(bytes: &[u8]) -> String {
     bytes.iter().map(|it| format!("{it:02x}")).collect()
@@ -252,4 +252,53 @@ fn headers_that_are_none() {
         assert_eq!(Car::new(file).unwrap_err(), wanted);
         assert_eq!(refused(CarReader::new(file).unwrap_err()), wanted);
     }
+}
+
+/// Takes so many bytes, and then fails once.
+#[derive(Debug)]
+struct Full(Vec<u8>, usize);
+
+impl Write for Full {
+    fn write(&mut self, bytes: &[u8]) -> io::Result<usize> {
+        if self.1 == 0 {
+            self.1 = usize::MAX;
+            return Err(ErrorKind::TimedOut.into());
+        }
+        let count = bytes.len().min(self.1);
+        self.1 -= count;
+        self.0.write(&bytes[..count])
+    }
+
+    fn flush(&mut self) -> io::Result<()> {
+        Ok(())
+    }
+}
+
+/// A section after a part of one would be read as the rest of it.
+#[test]
+fn no_section_comes_after_a_part_of_one() {
+    let cid = name(b"\x05");
+    let mut car = CarWriter::new(Full(vec![], 30), &[]).unwrap();
+    for _ in 0..2 {
+        let error = car.write(&cid, b"\x05").unwrap_err();
+        assert!(matches!(error, CarError::Io(it) if it.kind() == ErrorKind::TimedOut));
+    }
+    let other = car.write(&cid, b"\x06").unwrap_err();
+    assert!(matches!(other, CarError::OtherBytes));
+    assert_eq!(car.finish().unwrap_err().kind(), ErrorKind::TimedOut);
+
+    let mut car = CarWriter::new(Full(vec![], 30), &[]).unwrap();
+    assert!(car.write(&cid, b"\x05").is_err());
+    assert_eq!(car.into_inner().0.len(), 30);
+}
+
+#[test]
+fn a_file_is_flushed_at_its_end() {
+    let mut car = CarWriter::new(BufWriter::new(Full(vec![], 30)), &[]).unwrap();
+    car.write(&name(b"\x05"), b"\x05").unwrap();
+    assert_eq!(car.finish().unwrap_err().kind(), ErrorKind::TimedOut);
+    let mut car = CarWriter::new(BufWriter::new(vec![]), &[]).unwrap();
+    car.write(&name(b"\x05"), b"\x05").unwrap();
+    let file = [HEADER, &section(b"\x05")].concat();
+    assert_eq!(car.finish().unwrap().get_ref(), &file);
 }

@@ -1,9 +1,10 @@
 //! Types by serde: what is read and written of each shape, and where what is refused stands.
 #![cfg(feature = "serde")]
 
+use dagcbor::de::Deserializer as Blocks;
 use dagcbor::{
-    from_ipld, from_reader, from_slice, ipld, name, take_from_slice, to_vec, to_writer, Cid, Error,
-    Ipld, Refusal,
+    from_ipld, from_reader, from_reader_once, from_slice, ipld, name, take_from_slice, to_vec,
+    to_writer, Cid, Error, Ipld, Refusal,
 };
 use serde::de::{DeserializeOwned, IntoDeserializer};
 use serde::{Deserialize, Deserializer, Serialize, Serializer};
@@ -159,6 +160,11 @@ fn what_the_block_lends() {
     let lent: Lent = from_slice(block).unwrap();
     assert_eq!(lent.text.as_ptr(), block[7..].as_ptr());
     assert_eq!(lent.bytes.as_ptr(), block[16..].as_ptr());
+    let list = to_vec(&lent.bytes).unwrap(); // as serde writes it
+    assert_eq!(
+        (&list[..], refused::<Bytes>(&list)),
+        (&b"\x81\x07"[..], (None, 0))
+    );
 }
 
 #[test]
@@ -290,6 +296,48 @@ fn a_read_says_where() {
     assert!(from_slice::<Loop>(b"\xf6").is_ok());
 }
 
+/// What serde or a type says when the item is read already, too.
+#[test]
+fn what_is_said_late_has_a_place() {
+    #[derive(Debug, Deserialize)]
+    #[serde(try_from = "u8")]
+    struct Even(#[allow(dead_code)] u8);
+    impl TryFrom<u8> for Even {
+        type Error = &'static str;
+        fn try_from(n: u8) -> Result<Even, &'static str> {
+            (n % 2 == 0).then_some(Even(n)).ok_or("it is odd")
+        }
+    }
+    #[derive(Debug, Deserialize)]
+    #[serde(tag = "t")]
+    enum Tagged {
+        Of {
+            #[allow(dead_code)]
+            of: Cid,
+        },
+    }
+    assert_eq!(refused::<Even>(b"\x01"), (None, 0));
+    assert_eq!(refused::<Vec<Even>>(b"\x83\x02\x18\x18\x03"), (None, 4));
+    assert_eq!(
+        refused::<BTreeMap<String, Even>>(b"\xa2\x61a\x02\x61b\x03"),
+        (None, 6)
+    );
+    assert_eq!(refused::<Tagged>(b"\xa1\x61t\x62Of"), (None, 0));
+    assert_eq!(
+        refused::<(u8, Tagged)>(b"\x82\x01\xa2\x61t\x62Of\x62of\x01"),
+        (None, 2)
+    );
+    let mut stream = Blocks::from_slice(b"\x02\x81\x01").into_iter::<Even>();
+    assert!(stream.next().unwrap().is_ok());
+    assert_eq!(stream.next().unwrap().unwrap_err().place(), Some(1));
+    let mut stream = Blocks::from_slice(b"\x18\x18\x01").into_iter::<Even>();
+    assert!(stream.next().unwrap().is_ok());
+    let error = stream.next().unwrap().unwrap_err();
+    assert_eq!(error.to_string(), "it is odd, at 2");
+    let error = from_reader_once::<Even, _>(&b"\x01"[..]).unwrap_err();
+    assert_eq!(error.place(), Some(0));
+}
+
 #[test]
 fn a_write_says_where() {
     let floats = BTreeMap::from([("a", vec![Some(0.5)])]);
@@ -395,6 +443,27 @@ fn depths_are_those_of_the_library() {
     );
     block.insert(0, 0x81);
     assert_eq!(refused::<Ipld>(&block).0, Some(Refusal::DepthOverflow));
+}
+
+/// Of a build that is not optimized, too.
+#[test]
+fn a_megabyte_of_stack_is_enough() {
+    #[derive(Debug, PartialEq, Serialize, Deserialize)]
+    #[serde(untagged)]
+    enum Value {
+        Null,
+        All(Vec<Value>),
+        Named(BTreeMap<String, Value>),
+    }
+    let blocks = [&b"\x81"[..], b"\xa1\x61a"].map(|it| [&it.repeat(127), &b"\xf6"[..]].concat());
+    let thread = std::thread::Builder::new().stack_size(1 << 20);
+    let read_and_write = move || {
+        for block in blocks {
+            both(from_slice::<Ipld>(&block).unwrap(), &block);
+            both(from_slice::<Value>(&block).unwrap(), &block);
+        }
+    };
+    thread.spawn(read_and_write).unwrap().join().unwrap();
 }
 
 #[test]
@@ -523,6 +592,60 @@ fn what_is_held_back_is_no_link_but_by_its_tag() {
     }
 }
 
+/// Limits of serde that the page has: none of these is so where nothing is held back.
+#[test]
+fn what_serde_takes_of_what_it_holds_back() {
+    #[derive(Debug, PartialEq, Deserialize)]
+    struct Pair {
+        x: u8,
+        y: u8,
+    }
+    /// As bytes of serde_bytes are.
+    #[derive(Debug, PartialEq)]
+    struct Loose(Vec<u8>);
+    impl<'de> Deserialize<'de> for Loose {
+        fn deserialize<D: Deserializer<'de>>(deserializer: D) -> Result<Loose, D::Error> {
+            struct Visitor;
+            impl<'de> serde::de::Visitor<'de> for Visitor {
+                type Value = Loose;
+                fn expecting(&self, f: &mut std::fmt::Formatter<'_>) -> std::fmt::Result {
+                    f.write_str("bytes")
+                }
+                fn visit_bytes<E>(self, bytes: &[u8]) -> Result<Loose, E> {
+                    Ok(Loose(bytes.to_vec()))
+                }
+                fn visit_str<E>(self, text: &str) -> Result<Loose, E> {
+                    Ok(Loose(text.into()))
+                }
+            }
+            deserializer.deserialize_byte_buf(Visitor)
+        }
+    }
+    #[derive(Debug, PartialEq, Deserialize)]
+    #[serde(untagged)]
+    enum Held<T> {
+        It(T),
+    }
+    fn held<T: DeserializeOwned>(block: &[u8]) -> Option<T> {
+        assert!(from_slice::<T>(block).is_err());
+        from_slice(block).ok().map(|Held::It(it)| it)
+    }
+    assert_eq!(held(b"\x82\x01\x02"), Some(Pair { x: 1, y: 2 }));
+    assert_eq!(held(b"\x62hi"), Some(Loose(b"hi".to_vec())));
+    let rounded = held(b"\x1b\0\x20\0\0\0\0\0\x01");
+    assert_eq!(rounded, Some((1u64 << 53) as f64));
+    assert!(from_slice::<Held<()>>(b"\xf6").is_err());
+    assert!(from_slice::<Held<Unit>>(b"\xf6").is_err());
+    assert!(from_slice::<Held<Option<u8>>>(b"\xf6").is_ok());
+    both(std::net::Ipv4Addr::new(1, 2, 3, 4), b"\x84\x01\x02\x03\x04");
+    assert!(from_slice::<Held<std::net::Ipv4Addr>>(b"\x84\x01\x02\x03\x04").is_err());
+
+    assert_eq!(to_vec(&Some(None::<u8>)).unwrap(), b"\xf6");
+    assert_eq!(from_slice::<Option<Option<u8>>>(b"\xf6").unwrap(), None);
+    assert_eq!(to_vec(&Some(())).unwrap(), b"\xf6");
+    assert_eq!(from_slice::<Option<()>>(b"\xf6").unwrap(), None);
+}
+
 /// A newtype as derive has it takes what is in a newtype that was held back, whatever its name.
 #[test]
 fn no_newtype_takes_a_link() {
@@ -568,6 +691,42 @@ fn no_newtype_takes_a_link() {
     both(Record::Values(all), &record);
 }
 
+/// A newtype of a CID or of data is what is in it, also where it is held back.
+#[test]
+fn newtypes_of_links_are_links() {
+    #[derive(Clone, Debug, PartialEq, Serialize, Deserialize)]
+    struct To<T>(T);
+    #[derive(Debug, PartialEq, Serialize, Deserialize)]
+    #[serde(tag = "t")]
+    enum Record<T> {
+        Post { of: To<T> },
+    }
+    #[derive(Debug, PartialEq, Serialize, Deserialize)]
+    struct Flat<T> {
+        #[serde(flatten)]
+        rest: BTreeMap<String, Option<To<T>>>,
+    }
+    fn hold<T: Clone + Debug + PartialEq + Serialize + DeserializeOwned>(of: T, link: &[u8]) {
+        let of = To(of);
+        both(of.clone(), link);
+        let post = [b"\xa2\x61t\x64Post\x62of", link].concat();
+        both(Record::Post { of: of.clone() }, &post);
+        let rest = BTreeMap::from([("x".into(), Some(of))]);
+        both(Flat { rest }, &[b"\xa1\x61x", link].concat());
+    }
+    let cid = Cid::try_from(&b"\x01\x55\0\0"[..]).unwrap();
+    hold(cid, b"\xd8\x2a\x45\0\x01\x55\0\0");
+    hold(Some(cid), b"\xd8\x2a\x45\0\x01\x55\0\0");
+    hold(Ipld::from(cid), b"\xd8\x2a\x45\0\x01\x55\0\0");
+    hold(ipld!([cid]), b"\x81\xd8\x2a\x45\0\x01\x55\0\0");
+    hold(Ipld::Bytes(cid.to_bytes()), b"\x44\x01\x55\0\0");
+    for of in [&b"\x68bafkqaaa"[..], b"\x44\x01\x55\0\0"] {
+        let post = [b"\xa2\x61t\x64Post\x62of", of].concat();
+        assert!(from_slice::<Record<Cid>>(&post).is_err());
+        assert!(from_slice::<Flat<Cid>>(&[b"\xa1\x61x", of].concat()).is_err());
+    }
+}
+
 /// Serde's limit: the data of `ipld-core` takes a link that was held back by the same calls.
 #[test]
 fn a_newtype_in_a_newtype_takes_a_link() {
@@ -593,6 +752,11 @@ fn a_newtype_in_a_newtype_takes_a_link() {
     );
     assert!(from_slice::<Held<Inner<Bytes>, u8>>(link).is_err());
     assert!(from_slice::<Outer<Bytes>>(link).is_err());
+    assert!(from_slice::<Held<Outer<Cid>, u8>>(link).is_err());
+    assert_eq!(
+        from_slice::<Held<Outer<Ipld>, u8>>(link).unwrap(),
+        Held::First(Outer(Inner(Ipld::Bytes(cid.to_bytes()))))
+    );
 }
 
 #[test]
@@ -619,6 +783,24 @@ fn other_fields_are_kept() {
     ]);
     let text = "bafkqaaa".into();
     both(Note { text, rest }, &block.concat());
+}
+
+/// Fields of a variant are held back when they are written, too.
+#[test]
+fn data_in_a_variant_is_written() {
+    #[derive(Debug, PartialEq, Serialize, Deserialize)]
+    enum Shape {
+        Fields { data: Ipld },
+    }
+    #[derive(Debug, PartialEq, Serialize, Deserialize)]
+    struct Note {
+        #[serde(flatten)]
+        shape: Shape,
+    }
+    let data = ipld!([1, -2, i64::MIN, u64::MAX, name(b"\xf6"), { "a": null }]);
+    let block = [b"\xa1\x66Fields\xa1\x64data", &to_vec(&data).unwrap()[..]].concat();
+    let shape = Shape::Fields { data };
+    both(Note { shape }, &block);
 }
 
 /// CIDs as the crate `cid` reads and writes them, and data as `ipld-core` reads it.

@@ -84,6 +84,12 @@ def constants(declaration):
         yield from [".TP", f".B {name} = {roff(number)}", roff(" ".join(what.split()))]
 
 
+def inlined(text, comment):
+    """The functions that a header defines itself, after their comment: what stands before the body of each."""
+    after = text.partition(f"{comment} */\n")[2]
+    return re.findall(r"^static inline (.*\)) \{$", re.split(r"^/\*", after, maxsplit=1, flags=re.M)[0], re.M)
+
+
 def library(name):
     """The page of a header: what it says first, each function, and each enumeration."""
     text = (ROOT / HEADERS[name]).read_text(encoding="utf-8")
@@ -97,6 +103,10 @@ def library(name):
     for comment, declaration in declared:
         if found := re.match(r"(?:int32_t|void) (dagcbor_\w+)\(", declaration):
             lines += [f".SS {found[1]}", ".nf", roff(declaration.strip()), ".fi", *paragraphs(comment)]
+        elif declaration.startswith("static inline"):
+            heads = inlined(text, comment)
+            names = ", ".join(re.search(r"(dagcbor_\w+)\(", head)[1] for head in heads)
+            lines += [f".SS {names}", ".nf", *(roff(f"{head};") for head in heads), ".fi", *paragraphs(comment)]
     lines.append(".SH CONSTANTS")
     for comment, declaration in declared:
         if declaration.startswith("enum"):

@@ -5,7 +5,7 @@
 
    A line is a frame: `commit BYTES`, with the number of bytes of the answer; the number of another
    kind; or the name of why the commit is not verified. The status is 0 if each frame is read and its
-   line is written. */
+   line is written, and 2 if memory runs out, which says nothing of the frame. */
 #include "asking.h"
 #include <stdio.h>
 
@@ -20,10 +20,11 @@ int main(int count, char **paths) {
     fclose(file);
     while (at < length) {
         int32_t kind = dagcbor_event_frame(bytes + at, length - at, &body, &end);
-        if (kind < 0) return printf("%s at %zu\n", dagcbor_name_of_code(kind), at), 1;
         Lent nothing = {dagcbor_from(NULL, 0), 0};
         Question it = {.bytes = {bytes + at, end}, .root = nothing, .rev = nothing};
         if (kind == DAGCBOR_FRAME_COMMIT) ask(&it, event_of);
+        if (kind == DAGCBOR_NO_MEMORY || it.code == DAGCBOR_NO_MEMORY) return 2;
+        if (kind < 0) return printf("%s at %zu\n", dagcbor_name_of_code(kind), at), 1;
         if (kind != DAGCBOR_FRAME_COMMIT) printf("kind %d\n", (int)kind);
         else if (it.code == DAGCBOR_VERIFIED) printf("commit %zu\n", it.needed);
         else printf("%s\n", dagcbor_name_of_code(it.code));

@@ -1,5 +1,5 @@
 /* Three examples: a block is judged, read, and written. `example` runs them, and its status is 0 if
-   each answers as this file says. */
+   each answers as this file says, and the one that is printed is written. */
 #undef NDEBUG
 #include "dagcbor.h"
 #include <assert.h>
@@ -39,7 +39,11 @@ static const dagcbor_token *print(FILE *to, const uint8_t *block, const dagcbor_
     case DAGCBOR_BOOL: fputs(count ? "true" : "false", to); break;
     case DAGCBOR_INTEGER: fprintf(to, "%" PRIu64, count); break;
     case DAGCBOR_NEGATIVE: fprintf(to, "-1 - %" PRIu64, count); break;
-    case DAGCBOR_STRING: fprintf(to, "\"%.*s\"", (int)count, (const char *)payload); break;
+    case DAGCBOR_STRING: /* it may have zero bytes, and more bytes than an int counts */
+        fputs("\"", to);
+        fwrite(payload, 1, count, to);
+        fputs("\"", to);
+        break;
     case DAGCBOR_BYTES:
     case DAGCBOR_LINK:
         fputs(token[-1].kind == DAGCBOR_LINK ? "link'" : "h'", to);
@@ -60,18 +64,26 @@ static const dagcbor_token *print(FILE *to, const uint8_t *block, const dagcbor_
     return token;
 }
 
-static void go_through(void) {
+/* True if the block, of at most LENGTH bytes, is printed so. */
+static bool is_printed(const uint8_t *block, size_t length, const char *wanted, size_t size) {
     /* A block has no more tokens than bytes. */
     dagcbor_token tape[LENGTH];
     char said[200] = "";
     size_t count;
-    assert(dagcbor_tape(BLOCK, LENGTH, tape, LENGTH, &count) == DAGCBOR_MAP && count == 10);
+    assert(dagcbor_tape(block, length, tape, LENGTH, &count) >= 0);
     FILE *to = fmemopen(said, sizeof said, "w");
-    assert(to && print(to, BLOCK, tape) == tape + count);
-    fclose(to);
-    puts(said);
-    assert(strcmp(said, "{\"more\": [true, null, h'ff'], \"text\": \"hi\", \"year\": -1 - 22}") ==
-           0);
+    assert(to && print(to, block, tape) == tape + count);
+    long end = ftell(to);
+    assert(fclose(to) == 0);
+    return end == (long)size && memcmp(said, wanted, size) == 0;
+}
+
+static void go_through(void) {
+    static const char SAID[] =
+        "{\"more\": [true, null, h'ff'], \"text\": \"hi\", \"year\": -1 - 22}";
+    assert(is_printed(BLOCK, LENGTH, SAID, sizeof SAID - 1));
+    puts(SAID);
+    assert(is_printed((const uint8_t *)"\x63x\0y", 4, "\"x\0y\"", 5));
 }
 
 /* The block of some tokens, which the caller frees, and its length; NULL if they tell none. */
@@ -112,5 +124,5 @@ int main(void) {
     judge();
     go_through();
     write_one();
-    return 0;
+    return ferror(stdout) || fflush(stdout) != 0;
 }

@@ -1,6 +1,10 @@
 /* The heap of libdagcbor_memory_ffi.a, over that of C. A program with another heap defines these
- * three calls over it. */
+ * three calls over it. C++ compiles this too. */
 #include <stdlib.h>
+
+#ifdef __cplusplus
+extern "C" {
+#endif
 
 /* Says if there is memory, and where; if there is none, a pointer to anything but NULL. */
 struct room {
@@ -10,7 +14,8 @@ struct room {
 
 static struct room room_at(void *at) {
     static char none[16];
-    return (struct room){at != NULL, at ? at : none};
+    struct room room = {at != NULL, at ? at : none};
+    return room;
 }
 
 struct room rattle_alloc(size_t size, size_t align) {
@@ -24,3 +29,7 @@ struct room rattle_realloc(void *old, size_t kept, size_t size, size_t align) {
 }
 
 void rattle_dealloc(void *old) { free(old); }
+
+#ifdef __cplusplus
+}
+#endif

@@ -9,13 +9,20 @@
 
    What a caller owes, which nothing checks:
    - `bytes` is not NULL, even if `length` is 0 (dagcbor_from makes such a pointer); `length` bytes stand
-     there, and nobody writes them during the call, no other thread either; `length` is below 2^63.
+     there, and nobody writes them during the call, no other thread either; `length` is below 2^63. The same holds for
+     each other pointer to bytes that are read, and its length.
    - `out` likewise, even if `room` is 0 (dagcbor_into), for `room` bytes that nobody else reads or writes
-     during the call; `tape` for `room` tokens (dagcbor_tape_into, dagcbor_compact_tape_into), aligned as their numbers,
-     and fewer than 2^58 of them; `needed`, `place` and `following` for one number each, `places` for three, or two; `walk` for
-     one walk. None of these overlaps another.
-   - The thread has 128 KB of stack left; the CPU is an x86-64-v2.
-   Calls on different threads need no lock: nothing is shared between them. */
+     during the call; `tape` for `room` tokens, or for the `count` that are read (dagcbor_tape_into, dagcbor_compact_tape_into),
+     aligned as their numbers, and fewer than 2^58 of them; `needed`, `place`, `end` and `following` for one number each,
+     `places` for three, or two; `walk` for one walk.
+   - What the call may write overlaps nothing else that it is given. What it only reads may overlap, such as a CID and a block
+     within it.
+   - The thread has 128 KB of stack left; the CPU is an x86-64-v2, or an aarch64.
+   Calls on different threads need no lock: nothing is shared between them.
+
+   If what is made has no room, dagcbor_spell, dagcbor_cid_text, dagcbor_cid_from_text, dagcbor_from_node and dagcbor_to_node
+   return DAGCBOR_NO_ROOM. The other calls that fill `out` or `tape` return the same number with room and without: compare
+   *needed with `room`. */
 #ifndef DAGCBOR_H
 #define DAGCBOR_H
 
@@ -81,8 +88,9 @@ enum dagcbor_refusal {
     DAGCBOR_NON_MINIMAL = -16,     /* a number or a length in more bytes than it needs */
     DAGCBOR_UNORDERED_KEY = -17,   /* a key that does not come after the one before it */
     DAGCBOR_NO_TOKEN = -20,        /* of dagcbor_spell: a kind or a number that is invalid, or a payload outside the bytes */
-    DAGCBOR_NO_ROOM = -21          /* of dagcbor_spell: what the tape tells has no room; of a CID and its text likewise; of
-                                      dagcbor_compact_tape: 2^32 bytes or more */
+    DAGCBOR_NO_ROOM = -21          /* what is made has no room: of dagcbor_spell, of the calls for the text of CIDs and for the data
+                                      model of nodes, and of those in dagcbor_memory.h; of dagcbor_compact_tape: 2^32 bytes or
+                                      more, and then *needed is 0 */
 };
 
 /* Returns the kind, from 0, exactly if the bytes are a block. Else it returns the refusal, below 0: there is one, the one that
@@ -318,7 +326,7 @@ enum dagcbor_event_answer {
     DAGCBOR_FRAME_NO_KIND = -64,         /* the header's op is 1, and the header tells no kind */
     DAGCBOR_FRAME_NO_BODY = -65,         /* the second item is not a body of the kind */
     DAGCBOR_NO_COMMIT_FRAME = -66,       /* the frame is of another kind than a commit */
-    DAGCBOR_NO_KNOWN = -67,              /* `root` has bytes and is not a CID, or `rev` is not UTF-8; the frame was not read */
+    DAGCBOR_NO_KNOWN = -67,              /* `root` is not empty, and it is not a CID or `rev` is not UTF-8; the frame was not read */
     DAGCBOR_TOO_BIG = -68,               /* the event does not tell all */
     DAGCBOR_REBASE = -69,                /* it tells of a rebase */
     DAGCBOR_MANY_OPERATIONS = -70,       /* more than 200 operations */
@@ -344,7 +352,8 @@ enum dagcbor_event_answer {
 /* Pointers that each call takes, even if there are no bytes, or there is no room, and the pointer is NULL. So
    dagcbor_links(bytes, length, dagcbor_into(NULL, 0), 0, &needed) asks how long the links are. */
 static inline const uint8_t *dagcbor_from(const uint8_t *bytes, size_t length) {
-    return length ? bytes : (const uint8_t *)"";
+    static const uint8_t none[1] = {0};
+    return length ? bytes : none;
 }
 
 static inline uint8_t *dagcbor_into(uint8_t *out, size_t room) {
@@ -362,7 +371,9 @@ static inline dagcbor_compact_token *dagcbor_compact_tape_into(dagcbor_compact_t
     return room ? tape : none;
 }
 
-/* The name of a number that a call returns, such as "map" and "NonMinimal": a kind's from 0, and a cause's below. */
+/* The name of a number that a call returns, such as "map" and "NonMinimal": from 0 that of a kind of item, or of
+   DAGCBOR_NOT_READ, and below 0 that of a cause. Numbers from 0 that mean something else, such as DAGCBOR_VERIFIED and
+   DAGCBOR_FRAME_COMMIT, have no names here. */
 static inline const char *dagcbor_name_of_code(int32_t code) {
     switch (code) {
     case DAGCBOR_NULL: return "null";
@@ -402,6 +413,8 @@ static inline const char *dagcbor_name_of_code(int32_t code) {
     case DAGCBOR_LEADING_ZERO: return "LeadingZero";
     case DAGCBOR_INVALID_VERSION: return "InvalidVersion";
     case DAGCBOR_INVALID_OFFSET: return "InvalidOffset";
+    case DAGCBOR_NO_SUCH_PATH: return "NoSuchPath";
+    case DAGCBOR_PATH_NOT_UTF8: return "PathNotUtf8";
     case DAGCBOR_NODE_TRUNCATED: return "Truncated";
     case DAGCBOR_INVALID_VARINT: return "InvalidVarint";
     case DAGCBOR_UNEXPECTED_FIELD: return "UnexpectedField";

@@ -7,20 +7,22 @@
    them; for a repository it holds the file's blocks and its records.
 
    What a caller owes, which nothing checks:
-   - The bytes are not NULL, even if `length` is 0 (dagcbor_from); `length` bytes stand there, and nobody writes them
-     during the call, no other thread either; `length` is below 2^63.
+   - No pointer to bytes is NULL, even if their length is 0 (dagcbor_from), those to a key, a root and a revision neither;
+     so many bytes stand there, and nobody writes them during the call, no other thread either; each length is below 2^63.
    - `out` likewise, even if `room` is 0 (dagcbor_into), for `room` bytes that nobody else reads or writes during the
-     call; `needed` and `place` for one number each. None of these overlaps another.
+     call; `needed`, `place`, `body` and `end` for one number each. What the call may write overlaps nothing else that it is
+     given; what it only reads may overlap.
    - The functions of the heap are of one allocator. They align memory as malloc does, to each power of two up to 16
      that divides its size; they say if there is none; and several threads may call them at once, if several
      make the call.
    - No signal handler calls it, nor the child that a process with threads forked.
-   - The thread has 1 MB of stack left; the CPU is an x86-64-v2.
+   - The thread has 1 MB of stack left; the CPU is an x86-64-v2, or an aarch64.
    Calls on different threads need no lock: nothing is shared between them but the heap.
 
    *needed becomes the length of the answer. If that is at most `room` it is put at the front of `out`. Else `out` stays as it
-   was, and the call returns DAGCBOR_NO_ROOM: with *needed bytes of room the same call succeeds. If memory runs out the call
-   returns DAGCBOR_NO_MEMORY. Then, and after any other refusal, *needed is 0, and `out` as it was. */
+   was, and the call returns DAGCBOR_NO_ROOM: the same call with *needed bytes of room puts it. If memory runs out the call
+   returns DAGCBOR_NO_MEMORY, which says nothing of the bytes. Then, and after any other number below 0, *needed is 0, and `out`
+   as it was; but with three numbers dagcbor_verify_event puts a CID. */
 #ifndef DAGCBOR_MEMORY_H
 #define DAGCBOR_MEMORY_H
 
@@ -88,10 +90,10 @@ enum dagcbor_frame_kind {
 };
 
 /* Returns the kind, from 0, exactly if a frame stands at the front of the bytes: two blocks of DAG-CBOR, a header and a body
-   that has the fields of its kind. Else it returns, below 0, a number of dagcbor_event_answer, to DAGCBOR_FRAME_NO_BODY. If two
-   items stand at the front by their heads, *body becomes where the second begins and *end where it ends, even if they are not a
-   frame, so that the next one is found. Else, for DAGCBOR_FRAME_NO_END alone, both become 0: more bytes may be needed, or a
-   head there is not DAG-CBOR. */
+   that has the fields of its kind. Else it returns, below 0, a number of dagcbor_event_answer, to DAGCBOR_FRAME_NO_BODY. Or it
+   returns DAGCBOR_NO_MEMORY: then a frame may be there, and who passes over it loses it. If two items stand at the front by
+   their heads, *body becomes where the second begins and *end where it ends, even if they are not a frame, so that the next one
+   is found. Else, for DAGCBOR_FRAME_NO_END alone, both become 0: more bytes may be needed, or a head there is not DAG-CBOR. */
 int32_t dagcbor_event_frame(const uint8_t *bytes, size_t length, size_t *body, size_t *end);
 
 /* Verifies the commit in the frame at the front of the bytes. Returns DAGCBOR_VERIFIED, and writes a block of DAG-CBOR, the map
@@ -104,8 +106,9 @@ int32_t dagcbor_event_frame(const uint8_t *bytes, size_t length, size_t *body, s
      "changes"   a list of lists of three, in the order of the operations: a record's key, as bytes, and links to the record
                  before and to the record after, or null
    docs/REPOSITORIES.md tells what is verified. It is verified against what is known of the repository: `root`, the CID of its
-   tree, and `rev`, its revision; if root_length is 0 nothing is known. Else it returns, below 0, a number of
-   dagcbor_event_answer. For the three of a node `out` has the node's CID. */
+   tree, and `rev`, its revision; if root_length is 0 nothing is known, and `rev` is not looked at. Else it returns, below 0, a
+   number of dagcbor_event_answer. With DAGCBOR_MISSING_NODE, DAGCBOR_NODE_OTHER_BYTES and DAGCBOR_NO_NODE it puts the CID of
+   the node, and *needed becomes its length; if that has no room the call returns DAGCBOR_NO_ROOM. */
 int32_t dagcbor_verify_event(const uint8_t *bytes, size_t length, const uint8_t *root, size_t root_length,
                              const uint8_t *rev, size_t rev_length, uint8_t *out, size_t room, size_t *needed);
 

@@ -202,8 +202,14 @@ def wrong_splits(path, folder, rng, count):
     return runs, found_wrong
 
 
+def without_output():
+    """Leaves no standard output to a program: the first file that it opens for itself could take that place."""
+    running.short_of_memory()
+    os.close(1)
+
+
 def wrong_devices(path, folder):
-    """Splits from standard input, of a file that is not there, to a full device, and beside files that cannot be made."""
+    """Splits from standard input, of a file that is not there, to a full device or a closed one, and beside files that cannot be made."""
     first, one, two = counted(header(cid(b"a", 0x55))), section(b"a", 0x55), section(bytes(120), 0x55)
     file, failed, other = first + one + two, b"dagcar: output failed\n", {"part-1.car": b"of another"}
     both, split = b"part-0.car\npart-1.car\n", {"part-0.car": first + one, "part-1.car": first + two}
@@ -214,6 +220,7 @@ def wrong_devices(path, folder):
         ("-", "away/part", {}, file, {}, (2, b"", failed, {})),
         ("-", "part", {}, first[:9], {}, (1, b"", b"refused Truncated\n", {})),
         ("-", "part", {}, file, little, (2, b"part-0.car\n", failed, alone)),
+        ("-", "part", {}, file, {"preexec_fn": without_output}, (2, b"", failed, alone)),
         ("-", "part", other, first, {}, (0, b"part-0.car\n", b"", {"part-0.car": first, **other})),
     ]
     found = [run_split(path, folder, ["--size", "100", of, to], before, given, **how) for of, to, before, given, how, _ in runs]

@@ -138,7 +138,8 @@ def test_no_cid_argument():
 
 
 def test_each_number_that_is_named_has_words():
-    unsaid = {-20, -21, -37, -42}  # a bad token, no room, a path that is not UTF-8 and out of memory: no call here gives these
+    # A bad token, no room, no such path, a path that is not UTF-8 and out of memory: no call here gives these.
+    unsaid = {-20, -21, -36, -37, -42}
     for code in [9, *range(-60, 0)]:
         error = _native.refusal(code, 5)
         has_words = "no reason is known" not in str(error)

@@ -1,19 +1,18 @@
 -- Frames and their kinds.
-use Rattle.std.specs.Bool.{⊤}
-use Rattle.std.proofs.Common.{◌≡◌, ◌≢◌, inl, inr, ◌⊎◌, ℕ, ℤ, pos, negsuc, ◌+◌, ◌-◌, ◌*◌, ◌≤◌, List, [], ◌∷◌, ◌++◌, length, length-append, take, get_or, codes, refl, sym, ap, ap₂, ◌∙◌, subst, arith, append_assoc, append-nil, Option, None, Some, string_bytes, Result, Ok, Err, MatchResult}
+use Rattle.std.proofs.Common.{◌≡◌, ◌≢◌, inl, inr, ℕ, ℤ, pos, negsuc, ◌+◌, ◌-◌, ◌*◌, ◌≤◌, List, [], ◌++◌, length, length-append, take, get_or, refl, sym, ap, ◌∙◌, subst, arith, Option, None, Some, Result, Ok, Err, MatchResult}
 use Rattle.std.proofs.lemmas.List.{append_cancel_right, take_at}
 use Rattle.dagcbor_core.specs.Steps.{default_steps}
 use Rattle.dagcbor_core.specs.declared.error.DecodeError.{DecodeError}
 use Rattle.dagcbor_core.specs.declared.error.DecodeError.TheVariants as unread
 use Rattle.std.specs.declared.convert.Infallible.{Infallible}
 use Rattle.ipld_tree.specs.Tree.{Tree}
-use Rattle.ipld_tree.specs.Spelling.{IsSpelling, IsFront, spelling}
+use Rattle.ipld_tree.specs.Spelling.{IsSpelling, IsFront}
 use Rattle.ipld_tree.proofs.Fronts.{front_unique}
 use Rattle.dagcbor_items.specs.Shapes.{Shape}
 use Rattle.dagcbor_items.specs.Skips.{EndByHeads}
 use Rattle.dagcbor_items.proofs.Skipping.{one_found, ends_within}
 use Rattle.dagcbor_items.proofs.SliceReads.{whole_front}
-use Rattle.dagcbor_read.specs.Whole.{IsWhole, HoldsNoValue}
+use Rattle.dagcbor_read.specs.Whole.{IsWhole}
 use Rattle.dagcbor_decode.specs.Verdicts.{answer, why_of}
 use Rattle.dagcbor_decode.specs.Decode.{Decoded, got, refused, decode}
 use Rattle.dagcbor_decode.proofs.Laws.{refused_no_block}

@@ -1,8 +1,8 @@
 -- The body of a frame of each kind.
-use Rattle.std.specs.Prelude.{◌≡◌, ◌≢◌, ◌⊎◌, ℕ, List, Option, Some, map, option_map, codes, string_bytes, ⊤}
+use Rattle.std.specs.Prelude.{◌≡◌, ◌≢◌, ◌⊎◌, ℕ, List, map, option_map, string_bytes, ⊤}
 use Rattle.dagcbor_core.specs.Steps.{default_steps}
 use Rattle.dagcbor_core.specs.declared.error.DecodeError.TheVariants as unread
-use Rattle.ipld_tree.specs.Cid.{CidParts, cid_bytes}
+use Rattle.ipld_tree.specs.Cid.{cid_bytes}
 use Rattle.dagcbor_read.specs.Whole.{IsWhole, HoldsNoValue}
 use Rattle.ipld_links.specs.Blocks.{HasBlock}
 use Rattle.types_events.specs.Events.{RepoOpView, CommitEventView, SyncEventView, IdentityEventView, AccountEventView, InfoEventView, ErrorEventView}

@@ -1,13 +1,12 @@
 -- The blocks of a file, section by section.
-use Rattle.std.specs.Bool.{⊤}
-use Rattle.std.proofs.Common.{◌≡◌, ◌≢◌, inl, inr, ◌⊎◌, ℕ, ◌<◌, List, [], ◌∷◌, ◌++◌, Bool, true, false, cond, length, length-append, refl, sym, ap, ◌∙◌, subst, arith, append_assoc, append-nil, Option, None, Some, option_map, flat_map, Vec, BTreeMap, Global}
+use Rattle.std.proofs.Common.{◌≡◌, inl, inr, ℕ, ◌<◌, List, [], ◌∷◌, ◌++◌, Bool, true, false, cond, length, length-append, refl, sym, ap, ◌∙◌, arith, append_assoc, append-nil, None, Some, option_map, flat_map, Vec, BTreeMap, Global}
 use Rattle.std.specs.Map.{lookup}
 use Rattle.std.specs.BTreeMap.{is_at, get}
 use Rattle.std.specs.List.{AllByRecursion}
 use Rattle.std.specs.declared.convert.Infallible.{Infallible}
 use Rattle.ipld_tree.specs.Cid.{CidParts, cid_cmp}
 use Rattle.ipld_links.specs.Reaching.{Stored, stored_in}
-use Rattle.files_car.specs.Car.{header_bytes, Section, section_bytes, IsHeader, IsSection, IsCar}
+use Rattle.files_car.specs.Car.{header_bytes, Section, section_bytes, IsSection}
 use Rattle.files_car.specs.Splits.{SplitsHeader, BeginsNoHeader, HeaderRefused, SplitsSection, BeginsNoSection, SectionFault}
 use Rattle.files_car.specs.declared.error.CarError.{CarError}
 use Rattle.files_car.specs.declared.error.CarError.TheVariants as faults

@@ -1,6 +1,5 @@
 -- The verdicts so far, and one more.
 use Rattle.std.proofs.Common.{◌≡◌, List, [], ◌∷◌, ◌++◌, refl, ap}
-use Rattle.files_car.specs.Car.{Section}
 use Rattle.ipld_links.specs.Verdicts.{IsVerdict}
 use Rattle.files_car.specs.Told.{Told, sections_of, AreTold}
 

@@ -1,9 +1,9 @@
 -- The blocks of a CAR file of version 1 in memory (CARv1 specification).
-use Rattle.std.specs.Prelude.{◌≡◌, ◌⊎◌, ◌<◌, ℕ, length, List, [], ◌∷◌, ◌++◌, cond, Option, None, Some, flat_map, ⊤}
+use Rattle.std.specs.Prelude.{◌≡◌, ◌⊎◌, ◌<◌, ℕ, length, List, [], ◌∷◌, ◌++◌, cond, None, Some, flat_map, ⊤}
 use Rattle.std.specs.BTreeMap.{is_at}
 use Rattle.std.specs.List.{AllByRecursion}
 use Rattle.std.specs.declared.convert.Infallible.{Infallible}
-use Rattle.ipld_tree.specs.Cid.{CidParts, cid_cmp}
+use Rattle.ipld_tree.specs.Cid.{cid_cmp}
 use Rattle.ipld_links.specs.Reaching.{Stored}
 use Rattle.files_car.specs.Car.{Section, section_bytes, IsSection, IsCar}
 use Rattle.files_car.specs.Splits.{SplitsHeader, HeaderRefused, SplitsSection, BeginsNoSection, SectionFault}

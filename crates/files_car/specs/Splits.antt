@@ -1,7 +1,6 @@
 -- The parts at the front of a CAR file's bytes, and why a part is not there.
-use Rattle.std.specs.Prelude.{◌≡◌, ◌≢◌, ◌⊎◌, ℕ, ◌^◌, ◌<◌, List, ◌++◌, length, map, Result, MatchResult, Vec}
+use Rattle.std.specs.Prelude.{◌≡◌, ◌⊎◌, ℕ, ◌^◌, ◌<◌, List, ◌++◌, length, map, Result, MatchResult, Vec}
 use Rattle.std.specs.declared.alloc.Global.{Global}
-use Rattle.dagcbor_core.specs.declared.error.DecodeError.TheVariants as unread
 use Rattle.ipld_tree.specs.Cid.{varint, CidParts, AreCidParts, cid_bytes}
 use Rattle.ipld_tree.specs.CidFault.{IsCutVarint, IsNoVarint, IsFault}
 use Rattle.ipld_tree.specs.declared.cid_error.CidError.{CidError}

@@ -1,13 +1,12 @@
 -- Links within links.
-use Rattle.std.proofs.Common.{◌≡◌, ◌⊎◌, inl, inr, map, IsTrue, ℕ, ◌+◌, ◌<◌, ◌≤◌, zero, suc, Bool, true, false, List, [], ◌∷◌, ◌++◌, length, length-append, get_or, take, refl, sym, ap, ◌∙◌, subst, arith, add-one, ◌≢◌, ◌↔◌, Result, Ok, Err, is_err, OnOk, if◌then◌else◌, ◌==◌, take-suc}
+use Rattle.std.proofs.Common.{◌≡◌, ◌⊎◌, inl, inr, map, IsTrue, ℕ, ◌+◌, ◌<◌, ◌≤◌, zero, suc, Bool, true, false, List, [], ◌∷◌, ◌++◌, length, length-append, get_or, take, refl, sym, ap, ◌∙◌, subst, arith, add-one, ◌↔◌, Result, Ok, Err, is_err, OnOk, if◌then◌else◌, ◌==◌, take-suc}
 use Rattle.std.specs.List.{AllByRecursion}
 use Rattle.std.proofs.Math.Seq.{take-length}
 use Rattle.ipld_tree.specs.Cid.{varint, CidParts, AreCidParts, IsCid, cid_bytes}
 use Rattle.ipld_tree.specs.Tree.{Tree, null, boolean, integer, text, bytes, list, mapping, link, Items, no_items, item, Entries, no_entries, entry, IsTree, AreItems, AreEntries, links_of, items_links, entries_links}
 use Rattle.ipld_tree.proofs.Cids.{cid_unique}
-use Rattle.dagcbor_items.specs.Walks.{forms, AreLinksIn, HasLinkIn}
+use Rattle.dagcbor_items.specs.Walks.{forms}
 use Rattle.dagcbor_decode.specs.Blocks.{AreFirstLinks}
-use Rattle.dagcbor_items.proofs.LinksIn.{item_links_in}
 use Rattle.ipld_links.specs.Names.{IsInline}
 use Rattle.dag_pb.specs.Node.{LinkParts}
 use Rattle.dag_pb.specs.Reads.{links_in}

@@ -1,6 +1,6 @@
 -- What is found in a file: one block, or those that links lead to.
 use Rattle.std.specs.Bool.{⊤}
-use Rattle.std.proofs.Common.{◌≡◌, inl, inr, ℕ, List, [], ◌∷◌, ◌++◌, append-nil, Bool, refl, sym, ap, ◌∙◌, subst, ◌↔◌, IsTrue, Option, Some, Result, Ok, Err, IsErrAnd, Vec, Global, flat_map}
+use Rattle.std.proofs.Common.{◌≡◌, inl, inr, ℕ, List, [], ◌∷◌, ◌++◌, append-nil, Bool, refl, sym, ap, ◌∙◌, subst, ◌↔◌, IsTrue, Option, Result, Ok, Err, IsErrAnd, Vec, Global, flat_map}
 use Rattle.std.specs.Io.KnownBytes.{Appends}
 use Rattle.std.proofs.KnownBytes.{Appends-nil}
 use Rattle.ipld_tree.specs.Cid.{CidParts}
@@ -10,9 +10,6 @@ use Rattle.ipld_links.specs.Verdicts.{IsVerified, IsVerdict}
 use Rattle.files_car.specs.Checks.{IsHeldInFile, IsFileFront}
 use Rattle.ipld_links.specs.declared.verdict.Verdict.{Verdict}
 use Rattle.ipld_links.specs.declared.verdict.Verdict.TheVariants as verdicts
-use Rattle.dagcbor_heads.specs.Written.{Written, Stops}
-use Rattle.dagcbor_core.specs.declared.error.EncodeError.{EncodeError}
-use Rattle.dagcbor_core.specs.declared.error.EncodeError.TheVariants as unsent
 use Rattle.program_shared.specs.declared.fault.ToolError.{ToolError}
 use Rattle.program_shared.specs.declared.fault.ToolError.TheVariants.{Output}
 use Rattle.ipld_links.specs.Reaching.{Stored, ReachesKnown}
@@ -25,6 +22,7 @@ use Rattle.program_parts.specs.declared.take.Ended.{Ended}
 use Rattle.program_parts.specs.declared.take.Ended.TheVariants as ended
 use Rattle.program_parts.proofs.Taking.{took_knows}
 use Rattle.program_parts.proofs.Keeping.{fault_told, start_told}
+use Rattle.program_parts.proofs.Saying.{text_breaks}
 use Rattle.program_dagcar.specs.Finding.{Seeks, IsTreeFile, IsTreeFound, SendsTree}
 use Rattle.program_dagcar.specs.declared.get.Search.{Search}
 use Rattle.program_dagcar.specs.declared.get.Stop.{Stop}
@@ -88,11 +86,6 @@ got_of b old new roots (ended.Stopped stops.Enough) (inr h) =
 
 -- ---- how a tree is written
 
-pub front_sent : {E : Type 0} (text : List ℕ) (old new : Written) (e : EncodeError E) (f : E) (before after : Option (List ℕ)) → Stops (Some text) old new e → e ≡ unsent.Write f → old.bytes ≡ before → new.bytes ≡ after → BreaksLine (λ out. out ≡ text) before after Output
-front_sent text old new e f before after stops is b a =
-    let k = (subst (Stops (Some text) old new) is stops).0 in
-    inr (k.0, k.1, sym k.2, refl, subst (λ x. Appends x after k.0) b (subst (λ x. Appends old.bytes x k.0) a k.3))
-
 module _ (stored : Stored) (root : CidParts) (found names lost : List CidParts) (well : Bool) (told text : List ℕ) (same : names ≡ found) (reaches : ReachesKnown stored root found lost) (lines : told ≡ flat_map missing_line lost) (same_told : text ≡ told)
     (wellness : IsTrue well ↔ (lost ≡ [])) where
   is_tree : (out : List ℕ) → IsTreeFile stored root names out → IsTreeFound stored root well out text
@@ -107,7 +100,7 @@ module _ (stored : Stored) (root : CidParts) (found names lost : List CidParts) 
 
   pub tree_broken : (old heard new : Option (List ℕ)) (r : Result Bool ToolError) (e : ToolError) → IsErrAnd r (λ x. x ≡ e) → SendsTree stored root names old (Err e) new → SaysBoth (IsTreeFound stored root) old heard r new heard
   tree_broken old heard new (Ok w) e is h = absurd is
-  tree_broken old heard new (Err x) e is h = by h.2
+  tree_broken old heard new (Err x) e is h = by (text_breaks (λ out. out ≡ h.0) h.0 old new e refl h.2)
     where
       by : BreaksLine (λ out. out ≡ h.0) old new e → SaysBoth (IsTreeFound stored root) old heard (Err x) new heard
       by (inl none) = inl (none, Appends-nil heard)

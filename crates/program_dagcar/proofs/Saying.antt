@@ -15,7 +15,7 @@ use Rattle.files_car.specs.declared.check.CarCheck.{CarCheck}
 use Rattle.files_car.specs.declared.error.CarError.{CarError}
 use Rattle.files_car.proofs.Places.{no_file, place_front}
 use Rattle.program_parts.specs.Lines.{missing_line, refused_line, BreaksLine, SaysToDevice, SaysLines}
-use Rattle.program_parts.proofs.Saying.{each_push}
+use Rattle.program_parts.proofs.Saying.{lines_said, each_push}
 use Rattle.program_shared.specs.Writing.{WritesFront}
 use Rattle.program_dagcar.specs.Answers.{check_speech}
 use Rattle.program_dagcar.specs.Speeches.{Speech, beside, IsSaidSoFar, IsSaidOfBytes, AreFirstLines, AreLines, BreaksSpeech, SaysBytes, SaysFile}
@@ -25,7 +25,7 @@ use Rattle.program_parts.proofs.Taking.{took_knows, left_begun, alone, alone_lin
 use Rattle.program_parts.specs.declared.take.Ended.{Ended}
 use Rattle.program_parts.specs.declared.take.Ended.TheVariants as ended
 use Rattle.program_shared.specs.declared.fault.ToolError.{ToolError}
-use Rattle.program_shared.specs.declared.fault.ToolError.TheVariants.{Output}
+use Rattle.program_shared.specs.declared.fault.ToolError.TheVariants.{Input, Output, OutOfMemory}
 
 -- ---- sections
 
@@ -56,6 +56,13 @@ last_said IsLast speech b whole before between after (Err e) first out next k =
 
 -- ---- a teller at work
 
+-- where others are written, no lines are
+lines_silent : (lines : List ℕ) (well : Bool) (before heard : Option (List ℕ)) (r : Result Bool ToolError) (after : Option (List ℕ)) → SaysLines lines well before r after → SaysLines [] well heard r heard
+lines_silent lines well before heard (Ok answer) after says = (says.0, Appends-nil heard)
+lines_silent lines well before heard (Err Output) after says = ([], [], refl, Appends-nil heard)
+lines_silent lines well before heard (Err OutOfMemory) after says = refl
+lines_silent lines well before heard (Err Input) after says = absurd says
+
 -- the error lines about sections were written, and there are none for a fault or at the end
 pub rest_silent : {T : Type 0} (speech : Speech) (TellsOf : Section → List ℕ → Type 0) (knows : Knowing T) (teller : T) (well : Bool) (w : Result (Ended ToolError) ToolError) (before heard : Option (List ℕ)) (r : Result Bool ToolError) (after : Option (List ℕ)) → SaysRest speech knows teller well w before r after → SaysRest (beside TellsOf) knows teller well w heard r heard
 rest_silent speech TellsOf knows teller well (Ok ended.Whole) before heard (Ok answer) after says = λ roots sections k.
@@ -63,8 +70,7 @@ rest_silent speech TellsOf knows teller well (Ok ended.Whole) before heard (Ok a
     ([], (s.1.0, refl, s.1.2), Appends-nil heard)
 rest_silent speech TellsOf knows teller well (Ok ended.Whole) before heard (Err e) after says = λ roots sections k. inl (Appends-nil heard)
 rest_silent speech TellsOf knows teller well (Ok (ended.Stopped e)) before heard r after says = (says.0, refl)
-rest_silent speech TellsOf knows teller well (Ok (ended.Fault line)) before heard (Ok answer) after says = ([], (says.1.0, refl), Appends-nil heard)
-rest_silent speech TellsOf knows teller well (Ok (ended.Fault line)) before heard (Err e) after says = inl (Appends-nil heard)
+rest_silent speech TellsOf knows teller well (Ok (ended.Fault line)) before heard r after says = lines_silent (speech.of_fault line.items) false before heard r after says
 rest_silent speech TellsOf knows teller well (Err e) before heard r after says = (says.0, refl)
 
 -- what a teller does to its work
@@ -150,7 +156,7 @@ module _ {S T : Type 0} (speech : Speech) (knows : Knowing T) (work : S → Work
   rest_said old new (Ok (ended.Fault line)) r after h k says =
       let far = all_said k.1.first.sections old new h k.1.first.took in
       last_said (λ answer text. (answer ≡ false) × (text ≡ speech.of_fault line.items)) speech b far.said before (work new).written after r (first_lines new k.1.first.sections k.1.first.wanting k.1.first.rest far k.1.first.front) far.out
-      (λ answer text is. subst (λ x. IsSaidOfBytes speech b x (far.said ++ text)) (sym is.0) (none_said new k.0 text old k.1 far (is.1 ∙ ap speech.of_fault k.2))) says
+      (λ answer text is. subst (λ x. IsSaidOfBytes speech b x (far.said ++ text)) (sym is.0) (none_said new k.0 text old k.1 far (is.1 ∙ ap speech.of_fault k.2))) (lines_said (λ answer text. (answer ≡ false) × (text ≡ speech.of_fault line.items)) (speech.of_fault line.items) false (work new).written after r (refl, refl) says)
   rest_said old new (Err e) r after h k says =
       let far = all_said k.sections old new h k.took in
       subst (λ x. SaysBytes speech b before x after) (sym says.0) (subst (λ a. BreaksSpeech speech b before a e) (sym says.1) (nothing_more new k.sections k.wanting k.rest e far k.front))
@@ -179,21 +185,12 @@ pub header_said : {E : Type 0} (speech : Speech) (old now : Reading) (before aft
 header_said speech old now before after e line r h is same says b l =
     let refused = header_alone old now e is h b l in
     last_said (λ answer text. (answer ≡ false) × (text ≡ line)) speech b [] before before after r (inl refl) (Appends-nil before)
-    (λ answer text k. inr (k.0, record { error = alone e; said = []; none = no_file (alone e) b refused; stands = inl (refused, refl); lines = k.1 ∙ same ∙ ap speech.of_fault (alone_line e is) })) (as_last r says)
-  where
-    as_last : (r : Result Bool ToolError) → SaysLines line false before r after → SaysToDevice (λ answer text. (answer ≡ false) × (text ≡ line)) before r after
-    as_last (Ok answer) k = (line, (k.0, refl), k.1)
-    as_last (Err x) (inl none) = inl none
-    as_last (Err x) (inr k) = inr (k.0, k.1, (false, (refl, k.2)), k.3, k.4)
+    (λ answer text k. inr (k.0, record { error = alone e; said = []; none = no_file (alone e) b refused; stands = inl (refused, refl); lines = k.1 ∙ same ∙ ap speech.of_fault (alone_line e is) })) (lines_said (λ answer text. (answer ≡ false) × (text ≡ line)) line false before after r (refl, refl) says)
 
 -- the header is refused, and that is the only error line
 pub header_silent : {E : Type 0} (TellsOf : Section → List ℕ → Type 0) (old now : Reading) (heard before after : Option (List ℕ)) (e : CarError E) (line : List ℕ) (r : Result Bool ToolError) → CarRefuses RefusesStart old e now → IsOfBytes e → SaysLines line false before r after → SaysFile (beside TellsOf) old heard r heard
 header_silent TellsOf old now heard before after e line r h is says =
-    header_said (beside TellsOf) old now heard heard e [] r h is refl (as_nothing r says)
-  where
-    as_nothing : (r : Result Bool ToolError) → SaysLines line false before r after → SaysLines [] false heard r heard
-    as_nothing (Ok answer) k = (k.0, Appends-nil heard)
-    as_nothing (Err x) k = inl (Appends-nil heard)
+    header_said (beside TellsOf) old now heard heard e [] r h is refl (lines_silent line false before heard r after says)
 
 pub not_begun : (speech : Speech) (old : Reading) (before : Option (List ℕ)) (e : ToolError) → SaysFile speech old before (Err e) before
 not_begun speech old before e b l = record { whole = []; front = []; first = inl refl; out = Appends-nil before; next = inl refl }

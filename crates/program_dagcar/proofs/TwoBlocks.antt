@@ -1,7 +1,5 @@
 -- The test for two blocks in a row.
 use Rattle.std.proofs.Common.{◌≡◌, ℕ, List, drop, Option, Result, Ok, Err, IfOk, MatchBool, is_ok, sym, ap, subst, ◌∙◌}
-use Rattle.std.specs.declared.convert.Infallible.{Infallible}
-use Rattle.dagcbor_core.specs.declared.error.DecodeError.{DecodeError}
 use Rattle.dagcbor_core.specs.declared.error.DecodeError.TheVariants as unread
 use Rattle.ipld_tree.specs.Tree.{Tree}
 use Rattle.ipld_links.specs.Blocks.{HasBlock}

@@ -23,7 +23,7 @@ use Rattle.files_car.specs.Checks.{ListsMissingInFile}
 use Rattle.ipld_links.specs.declared.verdict.Verdict.{Verdict}
 use Rattle.ipld_links.specs.declared.verdict.Verdict.TheVariants.{Refused}
 use Rattle.dagcbor_decode.specs.PrintedNames.{kind_name}
-use Rattle.program_parts.specs.Lines.{line, verdict_line, listed_line, missing_line, root_line, is_well, SaysToDevice, SaysBoth}
+use Rattle.program_parts.specs.Lines.{line, verdict_line, listed_line, missing_line, root_line, is_well, SaysLines, SaysBoth}
 use Rattle.program_parts.specs.Shown.{IsSaidOfNoBlock, reserved_line}
 use Rattle.program_dagcar.specs.Lines.{cause_line, section_place_line}
 use Rattle.program_dagcar.specs.Speeches.{Speech, beside, SaysBytes}
@@ -168,8 +168,8 @@ abbrev pub RunsCommand : Command → List ℕ → List ℕ → Option (List ℕ)
 RunsCommand commands.Check text b old heard ended new after = SaysWithPlaces check_speech b old heard ended new after
 RunsCommand commands.Verify text b old heard ended new after = SaysWithPlaces verify_speech b old heard ended new after
 RunsCommand commands.Summary text b old heard ended new after = SaysBytes summary_speech b old ended new
-RunsCommand commands.Help text b old heard ended new after = SaysToDevice (λ well out. (well ≡ true) × (out ≡ help_text)) old ended new
-RunsCommand commands.Version text b old heard ended new after = SaysToDevice (λ well out. (well ≡ true) × (out ≡ version_text)) old ended new
+RunsCommand commands.Help text b old heard ended new after = SaysLines help_text true old ended new
+RunsCommand commands.Version text b old heard ended new after = SaysLines version_text true old ended new
 RunsCommand commands.List text b old heard ended new after = SaysBytes list_speech b old ended new
 RunsCommand commands.Name text b old heard ended new after = SaysBoth (IsNameSaid b) old heard ended new after
 RunsCommand commands.One text b old heard ended new after = SaysBoth (IsJudged b) old heard ended new after

@@ -1,6 +1,5 @@
 -- What is found in a CAR file: one block, or those that links lead to.
-use Rattle.std.specs.Prelude.{◌≡◌, ◌⊎◌, ◌↔◌, ℕ, List, [], ◌∷◌, ◌++◌, Bool, true, false, IsTrue, Option, ⊤, Result, Ok, Err, MatchResult, flat_map}
-use Rattle.std.specs.Io.KnownBytes.{Appends}
+use Rattle.std.specs.Prelude.{◌≡◌, ◌⊎◌, ◌↔◌, ℕ, List, [], ◌∷◌, ◌++◌, Bool, true, false, IsTrue, Option, ⊤, Result, Ok, Err, flat_map}
 use Rattle.ipld_tree.specs.Cid.{CidParts, cid_bytes}
 use Rattle.files_car.specs.Car.{Section, car_bytes}
 use Rattle.files_car.specs.Versions.{IsFile}
@@ -9,7 +8,7 @@ use Rattle.files_car.specs.Checks.{IsFileFront, IsHeldInFile}
 use Rattle.ipld_links.specs.Reaching.{Stored, IsLost, ReachesKnown, IsHiddenFrom}
 use Rattle.ipld_links.specs.declared.verdict.Verdict.{Verdict}
 use Rattle.files_car.specs.Reached.{sections_at}
-use Rattle.program_parts.specs.Lines.{verdict_line, missing_line, BreaksLine}
+use Rattle.program_parts.specs.Lines.{verdict_line, missing_line, SaysText}
 use Rattle.program_shared.specs.declared.fault.ToolError.{ToolError}
 use Rattle.program_parts.specs.Holding.{Stores, TellsFault}
 use Rattle.program_parts.specs.declared.holding.Kept.TheVariants as which
@@ -71,14 +70,8 @@ IsTreeOfFile root b well out told = ((roots : List (List ℕ)) × (sections : Li
 
 -- ---- its steps
 
--- the text was written; or nothing was; or the device failed after a prefix
-abbrev pub Sends : List ℕ → Option (List ℕ) → Result (Unit {0}) ToolError → Option (List ℕ) → Type 0
-Sends text old result new = MatchResult result (λ _. Appends old new text)
-    (λ e. BreaksLine (λ out. out ≡ text) old new e)
-
--- the file of the root and these names was written; or nothing was; or the device failed after a
--- prefix
+-- the file of the root and these names was written, or not all of it
 abbrev pub SendsTree : Stored → CidParts → List CidParts → Option (List ℕ)
     → Result (Unit {0}) ToolError → Option (List ℕ) → Type 0
 SendsTree stored root names old result new = (out : List ℕ) × IsTreeFile stored root names out
-    × Sends out old result new
+    × SaysText out old result new

@@ -5,7 +5,7 @@ use Rattle.std.specs.declared.alloc.Global.{Global}
 use Rattle.dagcbor_heads.specs.Reading.{Reading}
 use Rattle.files_car.specs.Car.{Section}
 use Rattle.files_car.specs.Sources.{TakesStart}
-use Rattle.program_parts.specs.Lines.{BreaksLine, SaysToDevice}
+use Rattle.program_parts.specs.Lines.{BreaksLine, SaysToDevice, SaysLines}
 use Rattle.program_dagcar.specs.Speeches.{Speech, SaysFile}
 use Rattle.program_parts.specs.declared.take.Ended.{Ended}
 use Rattle.program_parts.specs.declared.take.Ended.TheVariants as ended
@@ -82,8 +82,7 @@ SaysRest speech knows teller well (Ok ended.Whole) before result after =
 SaysRest speech knows teller well (Ok (ended.Stopped e)) before result after =
     (result ≡ Err e) × (after ≡ before)
 SaysRest speech knows teller well (Ok (ended.Fault line)) before result after =
-    SaysToDevice (λ answer text. (answer ≡ false) × (text ≡ speech.of_fault line.items))
-    before result after
+    SaysLines (speech.of_fault line.items) false before result after
 SaysRest speech knows teller well (Err e) before result after = (result ≡ Err e) × (after ≡ before)
 
 -- ---- the whole

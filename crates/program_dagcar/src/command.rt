@@ -3,7 +3,7 @@
 ghost use Rattle.std.specs.Prelude.{◌≡◌, ◌≢◌, [], ◌∷◌, ◌++◌, codes, true, map, string_bytes, IfSome, MatchOption, Result, Bool, Option, None, Some, List, ℕ};
 ghost use Rattle.program_dagcar.specs.Answers.{RunsCommand, EndsSo, IsQuiet};
 ghost use Rattle.program_dagcar.specs.Speeches.{beside, SaysBytes};
-ghost use Rattle.program_parts.specs.Lines.{no_cid_line, SaysToDevice, SaysBoth};
+ghost use Rattle.program_parts.specs.Lines.{no_cid_line, SaysLines, SaysBoth};
 ghost use Rattle.program_shared.specs.declared.fault.ToolError.{ToolError};
 ghost use Rattle.program_dagcar.specs.Commands.{IsCommand, IsCommandOn, IsMistyped};
 ghost use Rattle.program_dagcar.specs.Commands.{text_of};
@@ -330,8 +330,7 @@ fn say_input<T: Teller, R: BufRead, W: Write, V: Write>(
 
 /// Writes this text. All is well then.
 fn say_text<W: Write>(text: &str, output: &mut W) -> Result<bool, ToolError>
-    ensures { SaysToDevice (λ well out. (well ≡ true) × (out ≡ text.now))
-        (W.contents output.old) result (W.contents output.new) }
+    ensures { SaysLines text.now true (W.contents output.old) result (W.contents output.new) }
 {
     write_all(output, text.as_bytes())?;
     Ok(true)

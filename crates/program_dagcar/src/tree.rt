@@ -5,8 +5,8 @@ ghost use Rattle.ipld_tree.specs.Cid.{cid_bytes};
 ghost use Rattle.files_car.specs.Car.{car_bytes};
 ghost use Rattle.ipld_links.specs.Reaching.{stored_in, IsLost, ReachesKnown};
 ghost use Rattle.files_car.specs.Reached.{sections_at};
-ghost use Rattle.program_dagcar.specs.Finding.{IsTreeFound, IsTreeOf, IsTreeOfFile, Sends, SendsTree};
-ghost use Rattle.program_parts.specs.Lines.{SaysBoth};
+ghost use Rattle.program_dagcar.specs.Finding.{IsTreeFound, IsTreeOf, IsTreeOfFile, SendsTree};
+ghost use Rattle.program_parts.specs.Lines.{SaysText, SaysBoth};
 
 use crate::check::names_said;
 use dagcbor_core::EncodeError;
@@ -28,7 +28,7 @@ fn send<W: Write>(
     names: &[Cid],
     output: &mut W,
 ) -> Result<(), ToolError>
-    ensures { Sends
+    ensures { SaysText
         (car_bytes (cid_bytes root.now ∷ []) (sections_at (stored_in blocks.now) names.now))
         (W.contents output.old) result (W.contents output.new) }
 {

@@ -1,5 +1,5 @@
 -- The names that are removed, one after the other, and what is written of them.
-use Rattle.std.proofs.Common.{◌≡◌, inl, inr, ℕ, zero, suc, ◌+◌, ◌≤◌, ◌<◌, List, [], ◌∷◌, ◌++◌, length, take, get_or, take-suc, add-one, append-nil, length-append, flat_map, codes, Bool, true, false, refl, sym, ap, ap₂, ◌∙◌, subst, arith, IsTrue, ◌⊎◌, ◌↔◌, Option, Result, Ok, Err}
+use Rattle.std.proofs.Common.{◌≡◌, inl, inr, ℕ, zero, suc, ◌+◌, ◌≤◌, ◌<◌, List, [], ◌∷◌, ◌++◌, length, take, get_or, take-suc, add-one, append-nil, length-append, flat_map, Bool, true, false, refl, sym, ap, ap₂, ◌∙◌, subst, arith, IsTrue, ◌⊎◌, ◌↔◌, Option, Result, Ok, Err}
 use Rattle.std.proofs.Math.Seq.{take-length}
 use Rattle.std.specs.Bool.{⊤}
 use Rattle.sqlite_trees.specs.Tree.{Trees}
@@ -19,7 +19,7 @@ use Rattle.store_on_disk.specs.RootRows.{LeavesOut}
 use Rattle.store_on_disk.specs.Stored.{ListsName, IsTaken, IsCommitted}
 use Rattle.store_on_disk.proofs.Sweeping.{those_as, those_all, those_less}
 use Rattle.store_on_disk.proofs.Unlisted.{item_among}
-use Rattle.program_dagstore.specs.Changes.{cid_line, Changes, Commits, Notes, Splits, line_after, SaysTaken, ListsOthers, Removes, SaysRemoved}
+use Rattle.program_dagstore.specs.Changes.{cid_line, Changes, Commits, Notes, Splits, line_after, SaysTaken, SaysTakenOut, ListsOthers}
 use Rattle.program_dagstore.specs.declared.taken.Taken.{Taken}
 use Rattle.program_dagstore.specs.declared.fault.Fault.{Fault}
 use Rattle.program_dagstore.specs.declared.fault.Fault.TheVariants as fault
@@ -176,8 +176,8 @@ committed_all Does old mid new h c = record {
 pub removed : (old mid new : View) (names once : List CidParts) → AreOnceEach names once → Changes (ListsOthers once) old mid → IsCommitted mid new → Commits (ListsOthers names) old new
 removed old mid new names once each h c = committed_all (ListsOthers names) old mid new (record { trees = others_once names once old.trees mid.trees each h.trees; committed = h.committed; is_open = h.is_open; broken = h.broken }) c
 
-pub removed_said : {S : Type 0} (g : Ghosts S) (names : List CidParts) (old new : S) (taken : Taken) (before heard after told : Option (List ℕ)) (r : Result Bool Fault) → Removes g names old new taken → SaysTaken (codes " no block") taken before heard r after told
-    → SaysRemoved g names old before heard r new after told
-removed_said g names old new taken before heard after told (Ok well) h k = (taken, h, k)
-removed_said g names old new taken before heard after told (Err (fault.Store why)) h k = absurd k
-removed_said g names old new taken before heard after told (Err (fault.Tool e)) h k = (taken, h, k)
+pub taken_said : {S : Type 0} (g : Ghosts S) (TakesOut : S → S → Taken → Type 0) (words : List ℕ) (old new : S) (taken : Taken) (before heard after told : Option (List ℕ)) (r : Result Bool Fault) → TakesOut old new taken → SaysTaken words taken before heard r after told
+    → SaysTakenOut g TakesOut words old before heard r new after told
+taken_said g TakesOut words old new taken before heard after told (Ok well) h k = (taken, h, k)
+taken_said g TakesOut words old new taken before heard after told (Err (fault.Store why)) h k = absurd k
+taken_said g TakesOut words old new taken before heard after told (Err (fault.Tool e)) h k = (taken, h, k)

@@ -1,5 +1,5 @@
 -- The roots that a store keeps: those that a command uses, and how they change.
-use Rattle.std.proofs.Common.{◌≡◌, ◌⊎◌, inl, inr, ℕ, ◌+◌, ◌<◌, List, [], ◌∷◌, ◌++◌, length, take, get_or, codes, Bool, refl, sym, ◌∙◌, subst, arith, IsTrue, ◌↔◌, Option, Result, Ok, Err}
+use Rattle.std.proofs.Common.{◌≡◌, ◌⊎◌, inl, inr, ℕ, ◌+◌, ◌<◌, List, [], ◌∷◌, ◌++◌, length, take, get_or, Bool, refl, sym, ◌∙◌, subst, arith, IsTrue, ◌↔◌, Option, Result, Ok, Err}
 use Rattle.sqlite_trees.specs.Tree.{Trees}
 use Rattle.sqlite_trees.specs.View.{View, IsClean}
 use Rattle.sqlite_trees.specs.declared.store.Store.{Ghosts}
@@ -27,9 +27,9 @@ use Rattle.store_on_disk.proofs.Marking.{have_same, known_same, collect_after}
 use Rattle.store_on_disk.proofs.Walking.{same_then, walk_refused}
 use Rattle.store_on_disk.specs.declared.error.StoreRefusal.{StoreRefusal}
 use Rattle.store_on_disk.specs.declared.error.StoreRefusal.TheVariants as refusal
-use Rattle.program_dagstore.specs.Changes.{SaysCollected, Changes, Commits, Notes, SaysTaken}
+use Rattle.program_dagstore.specs.Changes.{SaysCollected, Changes, Commits, Notes}
 use Rattle.program_dagstore.specs.Files.{Exports}
-use Rattle.program_dagstore.specs.Roots.{AreMeant, DropsRoots, SplitsRoots, Drops, SaysDropped}
+use Rattle.program_dagstore.specs.Roots.{AreMeant, DropsRoots, SplitsRoots}
 use Rattle.program_dagstore.proofs.Removing.{longer, fresh, leaves_among, splits_next, committed_all}
 use Rattle.program_dagstore.specs.declared.taken.Taken.{Taken}
 use Rattle.program_dagstore.specs.declared.fault.Fault.{Fault}
@@ -228,9 +228,3 @@ drops_once names once old new each h = record {
 
 pub dropped : (old mid new : View) (names once : List CidParts) → AreOnceEach names once → Changes (DropsRoots once) old mid → IsCommitted mid new → Commits (DropsRoots names) old new
 dropped old mid new names once each h c = committed_all (DropsRoots names) old mid new (record { trees = drops_once names once old.trees mid.trees each h.trees; committed = h.committed; is_open = h.is_open; broken = h.broken }) c
-
-pub dropped_said : {S : Type 0} (g : Ghosts S) (names : List CidParts) (old new : S) (taken : Taken) (before heard after told : Option (List ℕ)) (r : Result Bool Fault) → Drops g names old new taken → SaysTaken (codes " no root") taken before heard r after told
-    → SaysDropped g names old before heard r new after told
-dropped_said g names old new taken before heard after told (Ok well) h k = (taken, h, k)
-dropped_said g names old new taken before heard after told (Err (fault.Store why)) h k = absurd k
-dropped_said g names old new taken before heard after told (Err (fault.Tool e)) h k = (taken, h, k)

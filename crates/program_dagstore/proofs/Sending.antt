@@ -1,9 +1,8 @@
 -- How texts are written one after the other.
-use Rattle.std.proofs.Common.{◌≡◌, inl, inr, ℕ, List, [], ◌∷◌, ◌++◌, refl, sym, ap, ◌∙◌, subst, append_assoc, codes, decimal, Option, Result, Ok, Err, IsErrAnd}
+use Rattle.std.proofs.Common.{◌≡◌, ℕ, List, [], ◌∷◌, ◌++◌, refl, sym, ap, ◌∙◌, subst, append_assoc, codes, decimal, Option, Result, Ok, Err, IsErrAnd}
 use Rattle.std.proofs.KnownBytes.{Appends-trans}
 use Rattle.ipld_tree.specs.Cid.{CidParts}
 use Rattle.text_cid.specs.Texts.{cid_text}
-use Rattle.program_parts.specs.Lines.{BreaksLine}
 use Rattle.program_parts.proofs.Saying.{line_whole}
 use Rattle.program_shared.specs.Writing.{WritesFront}
 use Rattle.program_shared.specs.declared.fault.ToolError.{ToolError}
@@ -36,11 +35,6 @@ module _ {A : Type 0} where
 
       whole : a ++ ((b ++ w) ++ (d ++ 10 ∷ [])) ≡ (first ++ (second ++ told)) ++ 10 ∷ []
       whole = spelled ∙ ap (λ z. first ++ z) (append_assoc second words (decimal number ++ 10 ∷ []) ∙ ap (λ z. second ++ z) (sym (append_assoc words (decimal number) (10 ∷ []))) ∙ sym (append_assoc second told (10 ∷ []))) ∙ sym (append_assoc first (second ++ told) (10 ∷ []))
-
--- a line that is so was cut short
-pub line_is : (IsLine : List ℕ → Type 0) (said : List ℕ) (before after : Option (List ℕ)) (e : ToolError) → IsLine said → BreaksLine (λ out. out ≡ said) before after e → BreaksLine IsLine before after e
-line_is IsLine said before after e is (inl none) = inl none
-line_is IsLine said before after e is (inr k) = inr (k.0, k.1, subst IsLine (sym k.2) is, k.3, k.4)
 
 module _ {A : Type 0} where
   pub name_told : (before after : Option (List ℕ)) (name : CidParts) (a : List ℕ) (r : Result A ToolError) → a ≡ cid_text name → WritesFront before after r ((codes "dagstore: of " ++ a) ++ 10 ∷ []) → WritesFront before after r (dagstore_line (codes "of " ++ cid_text name))

@@ -7,8 +7,8 @@ use Rattle.sqlite_trees.specs.View.{View, IsClean}
 use Rattle.sqlite_trees.specs.declared.store.Store.{Ghosts}
 use Rattle.ipld_tree.specs.Cid.{CidParts, cid_bytes}
 use Rattle.program_shared.specs.declared.fault.ToolError.{ToolError}
-use Rattle.program_parts.specs.Lines.{BreaksLine, IsSaidOfEach}
-use Rattle.program_parts.proofs.Saying.{each_push, each_map}
+use Rattle.program_parts.specs.Lines.{TextFails, IsSaidOfEach}
+use Rattle.program_parts.proofs.Saying.{text_breaks, each_push, each_map}
 use Rattle.store_on_disk.specs.Ends.{Quiet}
 use Rattle.store_on_disk.specs.Rows.{name_tree, IsListed as IsIn}
 use Rattle.store_on_disk.specs.Stored.{IsNext, GivesNextName, ListsName, IsSame, StaysSame}
@@ -57,9 +57,8 @@ said_of_next IsSaid old mid new last c w t stays was same next is =
 
 -- the line of the next name was cut short
 pub line_broken : (IsSaid : Telling) (old new : View) (last : Option CidParts) (c : CidParts) (well : Bool) (said : List ℕ) (before after : Option (List ℕ)) (e : ToolError) → (IsClean new → IsNext (old.trees name_tree) last c) → IsSaid old new c well said
-    → BreaksLine (λ out. out ≡ said) before after e → Breaks (IsNextLine IsSaid old last new) before after (fault.Tool e)
-line_broken IsSaid old new last c well said before after e next is (inl none) = inl none
-line_broken IsSaid old new last c well said before after e next is (inr k) = inr (k.0, k.1, (c, well, subst (IsSaid old new c well) (sym k.2) is, next), k.3, k.4)
+    → TextFails said before e after → Breaks (IsNextLine IsSaid old last new) before after (fault.Tool e)
+line_broken IsSaid old new last c well said before after e next is fails = text_breaks (IsNextLine IsSaid old last new) said before after e (c, well, is, next) fails
 
 -- nothing was written after the lines of all names
 pub nothing_after : (IsSaid : Telling) (old new : View) (before after : Option (List ℕ)) (well : Bool) (e : ToolError) → SaysNames IsSaid old before (Ok well) new after → SaysNames IsSaid old before (Err (fault.Tool e)) new after

@@ -1,20 +1,17 @@
 -- What is written of blocks that are stored and removed.
-use Rattle.std.specs.Prelude.{◌≡◌, ◌≢◌, ◌↔◌, ◌⊎◌, ℕ, ◌+◌, List, [], ◌∷◌, ◌++◌, length, codes, flat_map, Bool, true, false, IsTrue, Option, Result, Ok, Err}
+use Rattle.std.specs.Prelude.{◌≡◌, ◌≢◌, ◌↔◌, ◌⊎◌, ℕ, ◌+◌, List, [], ◌∷◌, ◌++◌, length, flat_map, Bool, true, false, IsTrue, Option, Result, Ok, Err}
 use Rattle.std.specs.Io.KnownBytes.{Appends}
 use Rattle.sha2.specs.Sha256.{sha256}
 use Rattle.sqlite_trees.specs.Tree.{Trees}
 use Rattle.sqlite_trees.specs.View.{View, IsClean}
 use Rattle.sqlite_trees.specs.declared.store.Store.{Ghosts}
-use Rattle.dagcbor_core.specs.Appends.{AppendsFront}
 use Rattle.ipld_tree.specs.Cid.{CidParts, cid_parts}
 use Rattle.text_cid.specs.Texts.{cid_text}
 use Rattle.dagcbor_items.specs.Walks.{forms}
 use Rattle.files_car.specs.Car.{Section}
 use Rattle.ipld_links.specs.Sets.{Among}
 use Rattle.ipld_links.specs.Sound.{IsSound, IsUnsound}
-use Rattle.program_shared.specs.declared.fault.ToolError.{ToolError}
-use Rattle.program_shared.specs.declared.fault.ToolError.TheVariants.{Input, Output, OutOfMemory}
-use Rattle.program_parts.specs.Lines.{line}
+use Rattle.program_parts.specs.Lines.{line, TextFails}
 use Rattle.ipld_paths.specs.Resolving.{AreOnceEach}
 use Rattle.store_on_disk.specs.RootRows.{LeavesOut}
 use Rattle.store_on_disk.specs.Stored.{IsPut, PutRefused, ListsName, FailsByStore}
@@ -25,19 +22,6 @@ use Rattle.program_dagstore.specs.Lines.{removed_line}
 use Rattle.program_dagstore.specs.declared.taken.Taken.{Taken}
 use Rattle.program_dagstore.specs.declared.fault.Fault.{Fault}
 use Rattle.program_dagstore.specs.declared.fault.Fault.TheVariants as fault
-
--- why a text is not written: the device failed, after a prefix of it; or memory ran out, and
--- nothing is written
-abbrev pub TextFails : List ℕ → Option (List ℕ) → ToolError → Option (List ℕ) → Type 0
-TextFails text before Output after = AppendsFront before after text
-TextFails text before OutOfMemory after = after ≡ before
-TextFails text before Input after = ⊥
-
--- the text was written, or not all of it
-abbrev pub SaysText : {A : Type 0} → List ℕ
-    → Option (List ℕ) → Result A ToolError → Option (List ℕ) → Type 0
-SaysText text before (Ok v) after = Appends before after text
-SaysText text before (Err e) after = TextFails text before e after
 
 -- ---- put
 
@@ -133,6 +117,16 @@ SaysTaken words taken before heard (Err (fault.Tool e)) after told =
     ⊎ (Appends before after (removed_line taken.count) × (taken.others.items ≢ [])
     × TextFails (flat_map (line_after words) taken.others.items) heard e told)
 
+-- The names are removed in this way, and it is written how many were there, and with these words
+-- which were not; or the store failed, and nothing was written.
+abbrev pub SaysTakenOut : {S : Type 0} → Ghosts S → (S → S → Taken → Type 0) → List ℕ
+    → S → Option (List ℕ) → Option (List ℕ) → Result Bool Fault
+    → S → Option (List ℕ) → Option (List ℕ) → Type 0
+SaysTakenOut g TakesOut words old before heard (Err (fault.Store why)) new after told =
+    FailsByStore g ⊥ old new why × (after ≡ before) × (told ≡ heard)
+SaysTakenOut g TakesOut words old before heard ended new after told = (taken : Taken)
+    × TakesOut old new taken × SaysTaken words taken before heard ended after told
+
 -- ---- remove
 
 -- the stored blocks are those that there were, without these names
@@ -145,13 +139,3 @@ abbrev pub Removes : {S : Type 0} → Ghosts S → List CidParts → S → S →
 Removes g names old new taken = IsClean (g.view new)
     → Commits (ListsOthers names) (g.view old) (g.view new)
     × SplitsOnce (ListsName (g.view old)) names taken
-
--- The names are removed, and it is written how many were listed, and which were not; or the store
--- failed, and nothing was written.
-abbrev pub SaysRemoved : {S : Type 0} → Ghosts S → List CidParts
-    → S → Option (List ℕ) → Option (List ℕ) → Result Bool Fault
-    → S → Option (List ℕ) → Option (List ℕ) → Type 0
-SaysRemoved g names old before heard (Err (fault.Store why)) new after told =
-    FailsByStore g ⊥ old new why × (after ≡ before) × (told ≡ heard)
-SaysRemoved g names old before heard ended new after told = (taken : Taken)
-    × Removes g names old new taken × SaysTaken (codes " no block") taken before heard ended after told

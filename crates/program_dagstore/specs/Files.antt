@@ -1,5 +1,5 @@
 -- What is written of a store as a CAR file, and what is reported of one that is read into it.
-use Rattle.std.specs.Prelude.{◌≡◌, ◌≢◌, ◌⊎◌, ℕ, List, ◌++◌, length, Bool, true, Option, Result, MatchResult, codes, decimal, flat_map}
+use Rattle.std.specs.Prelude.{◌≡◌, ◌≢◌, ◌⊎◌, ℕ, List, ◌++◌, length, Bool, true, Option, Result, Ok, Err, MatchResult, codes, decimal, flat_map}
 use Rattle.std.specs.Io.KnownBytes.{Appends}
 use Rattle.sqlite_trees.specs.View.{View, IsClean}
 use Rattle.sqlite_trees.specs.declared.store.Store.{Ghosts}
@@ -12,9 +12,8 @@ use Rattle.dagcbor_items.specs.Walks.{forms}
 use Rattle.files_car.specs.Car.{Section, car_bytes, IsCar}
 use Rattle.files_car.specs.declared.error.CarError.{CarError}
 use Rattle.files_car.specs.declared.error.CarError.TheVariants as file
-use Rattle.program_shared.specs.declared.fault.ToolError.{ToolError}
 use Rattle.program_shared.specs.declared.fault.ToolError.TheVariants.{Input, Output, OutOfMemory}
-use Rattle.program_parts.specs.Lines.{line, root_line, BreaksLine}
+use Rattle.program_parts.specs.Lines.{line, root_line, TextFails}
 use Rattle.program_parts.specs.Names.{fault_name}
 use Rattle.store_on_disk.specs.Stored.{FindsSo, IsUndone}
 use Rattle.store_on_disk.specs.Cars.{IsFileRead, IsFilled, ReadRefused}
@@ -123,10 +122,11 @@ stored_lines roots count = flat_map root_line roots ++ stored_line count
 -- these lines were written; or cut short, because a device failed, or memory ran out
 abbrev pub SaysStored : List (List ℕ) → ℕ
     → Option (List ℕ) → Result Bool Fault → Option (List ℕ) → Type 0
-SaysStored roots count before result after = MatchResult result
-    (λ well. (well ≡ true) × Appends before after (stored_lines roots count))
-    (λ e. (kind : ToolError) × (e ≡ fault.Tool kind)
-    × BreaksLine (λ text. text ≡ stored_lines roots count) before after kind)
+SaysStored roots count before (Ok well) after = (well ≡ true)
+    × Appends before after (stored_lines roots count)
+SaysStored roots count before (Err (fault.Store told)) after = ⊥
+SaysStored roots count before (Err (fault.Tool e)) after =
+    TextFails (stored_lines roots count) before e after
 
 -- The file was read, and its blocks and roots are committed; then its lines were written, or cut
 -- short.

@@ -1,5 +1,5 @@
 -- What is written of the roots that a store keeps, and how they change.
-use Rattle.std.specs.Prelude.{◌≡◌, ◌≢◌, ◌⊎◌, ℕ, List, [], codes, Bool, true, false, Option, Result, Ok, Err, MatchResult, flat_map}
+use Rattle.std.specs.Prelude.{◌≡◌, ◌≢◌, ◌⊎◌, ℕ, List, [], Bool, true, false, Option, Result, Ok, Err, MatchResult, flat_map}
 use Rattle.std.specs.Io.KnownBytes.{Appends}
 use Rattle.sqlite_trees.specs.Tree.{Trees}
 use Rattle.sqlite_trees.specs.View.{View, IsClean}
@@ -14,7 +14,7 @@ use Rattle.store_on_disk.specs.Stored.{FindsSo, IsUndone, IsCommitted, FailsBySt
 use Rattle.store_on_disk.specs.Roots.{HasRoots, AreRootsAdded, MayKeepRoots}
 use Rattle.store_on_disk.specs.Collecting.{KeepsReachable}
 use Rattle.store_on_disk.specs.declared.error.StoreRefusal.{StoreRefusal}
-use Rattle.program_dagstore.specs.Changes.{cid_line, SaysCollected, Commits, Splits, SplitsOnce, SaysTaken}
+use Rattle.program_dagstore.specs.Changes.{cid_line, SaysCollected, Commits, Splits, SplitsOnce}
 use Rattle.program_dagstore.specs.Files.{Exports}
 use Rattle.program_dagstore.specs.Lines.{no_roots_line}
 use Rattle.program_dagstore.specs.Said.{Breaks}
@@ -121,13 +121,3 @@ Drops g names old new taken = IsClean (g.view new)
     → Commits (DropsRoots names) (g.view old) (g.view new)
     × ((roots : List CidParts) → HasRoots (g.view old) roots
     → SplitsOnce (λ c. Among c roots) names taken)
-
--- The names are removed from the roots, and it is written how many were roots, and which were not;
--- or the store failed, and nothing was written.
-abbrev pub SaysDropped : {S : Type 0} → Ghosts S → List CidParts
-    → S → Option (List ℕ) → Option (List ℕ) → Result Bool Fault
-    → S → Option (List ℕ) → Option (List ℕ) → Type 0
-SaysDropped g names old before heard (Err (fault.Store why)) new after told =
-    FailsByStore g ⊥ old new why × (after ≡ before) × (told ≡ heard)
-SaysDropped g names old before heard ended new after told = (taken : Taken)
-    × Drops g names old new taken × SaysTaken (codes " no root") taken before heard ended after told

@@ -1,20 +1,20 @@
 //! The commands of the program: what each writes, and its exit status.
 
-ghost use Rattle.std.specs.Prelude.{Result, Bool, Option, List, ℕ, ◌⊎◌, IfErr};
+ghost use Rattle.std.specs.Prelude.{Result, Bool, Option, List, ℕ, ◌⊎◌, IfErr, codes};
 ghost use Rattle.sqlite_trees.specs.View.{IsClean};
 ghost use Rattle.ipld_paths.specs.Paths.{segments};
 ghost use Rattle.program_parts.specs.Entries.{IsListing};
 ghost use Rattle.store_on_disk.specs.Ends.{Quiet};
 ghost use Rattle.store_on_disk.specs.Stored.{IsAddedTo, IsKeptBy, JustReads};
 ghost use Rattle.program_dagstore.specs.Blocks.{SaysCount, IsGotBlock, GetFails, Has};
-ghost use Rattle.program_dagstore.specs.Changes.{name_as, SaysPut, ListsOthers, SaysRemoved};
+ghost use Rattle.program_dagstore.specs.Changes.{name_as, SaysPut, ListsOthers, Removes, SaysTakenOut};
 ghost use Rattle.program_dagstore.specs.Contents.{OfGot, SaysFile, IsOfFile, FailsAt};
 ghost use Rattle.program_dagstore.specs.Directories.{IsOfListing};
 ghost use Rattle.program_dagstore.specs.Lacking.{SaysStoreChecked};
 ghost use Rattle.program_dagstore.specs.Names.{IsListedLine, SaysNames};
 ghost use Rattle.program_dagstore.specs.Refusals.{ExitsSo};
 ghost use Rattle.program_dagstore.specs.Roots.{SaysRoots, ExportsMeant, CollectsMeant, KeepsMeant};
-ghost use Rattle.program_dagstore.specs.Roots.{HasAddedRoots, AddsToRoots, DropsRoots, SaysDropped};
+ghost use Rattle.program_dagstore.specs.Roots.{HasAddedRoots, AddsToRoots, DropsRoots, Drops};
 ghost use Rattle.program_dagstore.specs.Said.{StoreFails, SaysAll};
 ghost use Rattle.program_dagstore.specs.Trees.{SaysTree};
 ghost use Rattle.program_dagstore.specs.Ways.{IsAnswerIn, WayFails};
@@ -254,8 +254,9 @@ pub fn answer_remove<S: Store, W: Write, V: Write>(
     errors: &mut V,
 ) -> u8
     ensures answers { (ended : Result Bool Fault) × (heard : Option (List ℕ))
-        × SaysRemoved S.Store names.now store.old (W.contents output.old) (V.contents errors.old) ended
-        store.new (W.contents output.new) heard × ExitsSo ended result heard (V.contents errors.new) }
+        × SaysTakenOut S.Store (Removes S.Store names.now) (codes " no block") store.old
+        (W.contents output.old) (V.contents errors.old) ended store.new (W.contents output.new) heard
+        × ExitsSo ended result heard (V.contents errors.new) }
     ensures crash { (db : _) → S.Store.recovers store.new db → S.Store.recovers store.old db
         ⊎ (IsClean (S.Store.view store.new) → ListsOthers names.now (S.Store.view store.old).trees db) }
     ensures kept { IsKeptBy S.Store store.old store.new }
@@ -309,8 +310,9 @@ pub fn answer_drop_roots<S: Store, W: Write, V: Write>(
     errors: &mut V,
 ) -> u8
     ensures answers { (ended : Result Bool Fault) × (heard : Option (List ℕ))
-        × SaysDropped S.Store names.now store.old (W.contents output.old) (V.contents errors.old) ended
-        store.new (W.contents output.new) heard × ExitsSo ended result heard (V.contents errors.new) }
+        × SaysTakenOut S.Store (Drops S.Store names.now) (codes " no root") store.old
+        (W.contents output.old) (V.contents errors.old) ended store.new (W.contents output.new) heard
+        × ExitsSo ended result heard (V.contents errors.new) }
     ensures crash { (db : _) → S.Store.recovers store.new db → S.Store.recovers store.old db
         ⊎ (IsClean (S.Store.view store.new) → DropsRoots names.now (S.Store.view store.old).trees db) }
     ensures kept { IsKeptBy S.Store store.old store.new }

@@ -7,9 +7,10 @@ ghost use Rattle.store_on_disk.specs.Ends.{Quiet};
 ghost use Rattle.store_on_disk.specs.Stored.{IsKeptBy, IsAddedTo, ListsName, FailsByStore};
 ghost use Rattle.ipld_links.specs.Reaching.{NoneTwice};
 ghost use Rattle.ipld_links.specs.Sound.{IsSound};
-ghost use Rattle.program_dagstore.specs.Changes.{IsUnfit, SaysText, name_as, cid_line, SaysPut};
+ghost use Rattle.program_parts.specs.Lines.{SaysText};
+ghost use Rattle.program_dagstore.specs.Changes.{IsUnfit, name_as, cid_line, SaysPut};
 ghost use Rattle.program_dagstore.specs.Changes.{SaysCollected, ListsOthers, Changes, Splits};
-ghost use Rattle.program_dagstore.specs.Changes.{Removes, SaysRemoved};
+ghost use Rattle.program_dagstore.specs.Changes.{Removes, SaysTakenOut};
 ghost use Rattle.program_dagstore.specs.Roots.{CollectsMeant, KeepsMeant};
 
 use crate::export::tell_wrong;
@@ -132,8 +133,9 @@ pub fn remove_blocks<S: Store, W: Write, V: Write>(
     output: &mut W,
     errors: &mut V,
 ) -> Result<bool, Fault>
-    ensures says { SaysRemoved S.Store names.now store.old (W.contents output.old) (V.contents errors.old)
-        result store.new (W.contents output.new) (V.contents errors.new) }
+    ensures says { SaysTakenOut S.Store (Removes S.Store names.now) (codes " no block") store.old
+        (W.contents output.old) (V.contents errors.old) result store.new (W.contents output.new)
+        (V.contents errors.new) }
     ensures crash { (db : _) → S.Store.recovers store.new db → S.Store.recovers store.old db
         ⊎ (IsClean (S.Store.view store.new) → ListsOthers names.now (S.Store.view store.old).trees db) }
     ensures kept { IsKeptBy S.Store store.old store.new }

@@ -1,15 +1,14 @@
 //! `roots`, `add-root` and `drop-root`: the roots that a store keeps, and those that a command
 //! uses.
 
-ghost use Rattle.std.specs.Prelude.{◌⊎◌, IfOk, OnOk, IfErr};
+ghost use Rattle.std.specs.Prelude.{◌⊎◌, IfOk, OnOk, IfErr, codes};
 ghost use Rattle.sqlite_trees.specs.View.{IsClean};
 ghost use Rattle.store_on_disk.specs.Ends.{Quiet};
 ghost use Rattle.store_on_disk.specs.Stored.{IsKeptBy, JustReads, FailsByStore};
 ghost use Rattle.ipld_links.specs.Reaching.{NoneTwice};
-ghost use Rattle.program_dagstore.specs.Changes.{Changes};
+ghost use Rattle.program_dagstore.specs.Changes.{Changes, SaysTakenOut};
 ghost use Rattle.program_dagstore.specs.Roots.{SaysRoots, AreMeant, RootsUnread, HasAddedRoots};
 ghost use Rattle.program_dagstore.specs.Roots.{AddsToRoots, DropsRoots, SplitsRoots, Drops};
-ghost use Rattle.program_dagstore.specs.Roots.{SaysDropped};
 ghost use Rattle.program_dagstore.specs.Said.{StoreFails};
 
 use crate::fault::Fault;
@@ -131,8 +130,9 @@ pub fn drop_roots<S: Store, W: Write, V: Write>(
     output: &mut W,
     errors: &mut V,
 ) -> Result<bool, Fault>
-    ensures says { SaysDropped S.Store names.now store.old (W.contents output.old)
-        (V.contents errors.old) result store.new (W.contents output.new) (V.contents errors.new) }
+    ensures says { SaysTakenOut S.Store (Drops S.Store names.now) (codes " no root") store.old
+        (W.contents output.old) (V.contents errors.old) result store.new (W.contents output.new)
+        (V.contents errors.new) }
     ensures crash { (db : _) → S.Store.recovers store.new db → S.Store.recovers store.old db
         ⊎ (IsClean (S.Store.view store.new) → DropsRoots names.now (S.Store.view store.old).trees db) }
     ensures kept { IsKeptBy S.Store store.old store.new }

@@ -4,7 +4,8 @@ ghost use Rattle.std.specs.Prelude.{◌≡◌, ◌<◌, ◌-◌, ◌^◌, [], If
 ghost use Rattle.store_on_disk.specs.Ends.{Quiet};
 ghost use Rattle.store_on_disk.specs.Stored.{FailsByStore};
 ghost use Rattle.ipld_tree.specs.Cid.{AreCidParts};
-ghost use Rattle.program_dagstore.specs.Changes.{SaysText, line_after, Notes, SaysTaken};
+ghost use Rattle.program_parts.specs.Lines.{SaysText};
+ghost use Rattle.program_dagstore.specs.Changes.{line_after, Notes, SaysTaken};
 ghost use Rattle.program_dagstore.specs.Lines.{removed_line};
 
 use crate::fault::Fault;

@@ -1,5 +1,5 @@
 -- What is known by a map.
-use Rattle.std.proofs.Common.{◌≡◌, ℕ, List, [], Bool, true, false, cond, refl, ap, ◌∙◌, Option, None, Some, option_map, string_bytes, String, Global, BTreeMap}
+use Rattle.std.proofs.Common.{◌≡◌, ℕ, List, [], Bool, true, false, cond, refl, ap, ◌∙◌, Option, None, option_map, string_bytes, String, Global, BTreeMap}
 use Rattle.std.proofs.lemmas.Map.Text.{btree_map_updates_text}
 use Rattle.std.specs.BTreeMap.{UpdatesBy, get_by_text}
 use Rattle.std.specs.Map.{lookup}

@@ -1,5 +1,5 @@
 -- Bytes that are copied, one piece after the other.
-use Rattle.std.proofs.Common.{◌≡◌, ℕ, ◌+◌, ◌-◌, ◌≤◌, List, [], ◌++◌, length, take, drop, Option, None, Some, IfSome, Result, Ok, OnOk, IsErrAnd, sym, ap, ◌∙◌, subst, append-nil, append_assoc, arith, refl}
+use Rattle.std.proofs.Common.{◌≡◌, ℕ, ◌+◌, ◌-◌, ◌≤◌, List, [], ◌++◌, take, drop, Option, None, Some, IfSome, Result, Ok, OnOk, IsErrAnd, sym, ap, ◌∙◌, subst, append-nil, append_assoc, arith, refl}
 use Rattle.std.proofs.lemmas.List.{drop-drop}
 use Rattle.std.proofs.Math.Seq.{take-add}
 use Rattle.std.specs.Io.KnownBytes.{Appends}

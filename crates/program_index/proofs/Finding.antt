@@ -1,13 +1,12 @@
 -- A section that an index leads to.
-use Rattle.std.specs.Bool.{⊤}
-use Rattle.std.proofs.Common.{◌≡◌, ℕ, ◌+◌, ◌-◌, ◌^◌, ◌<◌, ◌≤◌, min, List, [], ◌++◌, length, take, drop, Option, None, Some, IfSome, Result, Ok, Err, IfOk, MatchOption, Vec, Global, sym, ap, ◌∙◌, subst, refl, inl, inr, arith, length-append}
+use Rattle.std.proofs.Common.{◌≡◌, ℕ, ◌+◌, ◌-◌, ◌^◌, ◌<◌, ◌≤◌, min, List, [], ◌++◌, length, take, drop, Option, None, Some, IfSome, Result, Ok, Err, IfOk, Vec, Global, sym, ap, ◌∙◌, subst, inl, inr, arith, length-append}
 use Rattle.std.proofs.lemmas.Bool.{cases_lt}
 use Rattle.std.proofs.lemmas.List.{drop_all}
 use Rattle.std.proofs.Math.Seq.{take-append-add}
 use Rattle.ipld_tree.specs.Cid.{CidParts, AreCidParts}
 use Rattle.ipld_links.specs.Verdicts.{IsVerified}
 use Rattle.dagcbor_heads.specs.Reading.{Reading}
-use Rattle.files_car.specs.Car.{Section, section_bytes, IsSection}
+use Rattle.files_car.specs.Car.{Section, section_bytes}
 use Rattle.files_car.specs.Versions.{length_of}
 use Rattle.files_car.specs.Sources.{CarRefuses, RefusesNext, TakesSectionBytes}
 use Rattle.files_car.specs.declared.error.CarError.{CarError}
@@ -17,13 +16,12 @@ use Rattle.program_parts.specs.Taking.{IsOfBytes}
 use Rattle.program_shared.specs.declared.fault.ToolError.{ToolError}
 use Rattle.std.specs.Int.{w64}
 use Rattle.files_index.specs.Places.{number_in}
-use Rattle.files_index.specs.Lookup.{find_bucket, entry_place, EndsWithin, IsFirst, IsEntryOf, FindsFirst, FindsOffset}
-use Rattle.files_index.specs.Leading.{StandsAmong, IsIndexAt}
+use Rattle.files_index.specs.Lookup.{find_bucket, entry_place, IsFirst, IsEntryOf, FindsOffset}
 use Rattle.files_index.specs.declared.find.Bucket.{Bucket}
 use Rattle.files_index.proofs.Leading.{leads}
 use Rattle.program_index.specs.Indexed.{entry_of}
 use Rattle.program_index.specs.Layouts.{IsLayout}
-use Rattle.program_index.specs.Finds.{BeginsSought, IsListed, GivesWhere, GivesOf, IsSoughtAt, LeadsAt, LeadsIn, LeadsBy}
+use Rattle.program_index.specs.Finds.{BeginsSought, IsListed, GivesWhere, IsSoughtAt, LeadsAt, LeadsIn, LeadsBy}
 use Rattle.program_index.specs.declared.layout.Layout.{Layout}
 
 -- a block is returned if a weaker condition holds

@@ -1,10 +1,10 @@
 -- The entries of the sections of a file.
 use Rattle.std.specs.Bool.{⊤}
-use Rattle.std.proofs.Common.{◌≡◌, ℕ, ◌+◌, ◌<◌, List, [], ◌∷◌, ◌++◌, length, sym, ap, ◌∙◌, subst, refl, inl, inr, append-nil, append_assoc, arith, length-append, flat_map, Option, Some, Result, Ok, Err, IfOk, Vec, Global, IsPermutation, IsSorted, add-zero, IfSome, None, drop}
+use Rattle.std.proofs.Common.{◌≡◌, ℕ, ◌+◌, List, [], ◌∷◌, ◌++◌, length, sym, ap, ◌∙◌, subst, inl, append-nil, append_assoc, arith, length-append, flat_map, Option, Some, IsPermutation, IsSorted, add-zero, IfSome, None, drop}
 use Rattle.std.specs.Option.{option_map}
 use Rattle.ipld_tree.specs.Cid.{varint}
 use Rattle.dagcbor_heads.specs.Reading.{Reading}
-use Rattle.files_car.specs.Car.{Section, section_bytes, header_bytes, car_bytes, counted}
+use Rattle.files_car.specs.Car.{Section, section_bytes, header_bytes, counted}
 use Rattle.files_car.specs.Sources.{CarRefuses, RefusesStart}
 use Rattle.files_car.specs.declared.error.CarError.{CarError}
 use Rattle.files_car.proofs.Places.{no_file}
@@ -13,7 +13,7 @@ use Rattle.files_index.specs.Index.{entry_cmp}
 use Rattle.program_parts.specs.Taking.{IsOfBytes, TookEach, TakesWhole}
 use Rattle.program_parts.specs.Holding.{TellsFault}
 use Rattle.program_parts.proofs.Taking.{alone, alone_line, header_alone}
-use Rattle.program_index.specs.Indexed.{entry_of, entries_of, AreEntries}
+use Rattle.program_index.specs.Indexed.{entry_of, entries_of}
 use Rattle.program_index.specs.Steps.{GathersNext, IsGathered}
 use Rattle.program_index.specs.declared.gather.Gathering.{Gathering}
 use Rattle.program_index.specs.declared.gather.Gathered.{Gathered}

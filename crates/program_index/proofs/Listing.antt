@@ -1,23 +1,20 @@
 -- A block of a file with an index that `index` wrote.
-use Rattle.std.specs.Bool.{⊤}
-use Rattle.std.proofs.Common.{◌≡◌, ℕ, ◌+◌, ◌-◌, ◌^◌, ◌<◌, ◌≤◌, List, [], ◌∷◌, ◌++◌, length, take, drop, sym, ap, ◌∙◌, subst, refl, inl, inr, arith, length-append, append_assoc, append-nil, flat_map, All, IsPermutation}
+use Rattle.std.proofs.Common.{◌≡◌, ℕ, ◌+◌, ◌-◌, ◌^◌, ◌<◌, List, [], ◌∷◌, ◌++◌, length, drop, sym, ap, ◌∙◌, refl, inl, inr, arith, length-append, append_assoc, append-nil, flat_map, All}
 use Rattle.std.proofs.lemmas.Grind.{flat_map-append}
 use Rattle.std.proofs.lemmas.List.Elements.{All-nil, All-cons, All-tail, All-head}
-use Rattle.std.proofs.lemmas.List.Sorted.{All-permutation, length_permutation}
+use Rattle.std.proofs.lemmas.List.Sorted.{All-permutation}
 use Rattle.std.proofs.lemmas.Nat.{from_le_bytes-to_le_bytes_8}
 use Rattle.std.proofs.lemmas.List.{drop-drop}
 use Rattle.std.proofs.Math.Seq.{drop-append_seam}
 use Rattle.std.specs.List.{AllByRecursion}
-use Rattle.std.specs.Int.{w64, to_le_bytes}
-use Rattle.ipld_tree.specs.Cid.{CidParts, AreCidParts}
-use Rattle.ipld_links.specs.Verdicts.{IsVerified}
+use Rattle.ipld_tree.specs.Cid.{AreCidParts}
 use Rattle.files_car.specs.Car.{Section, section_bytes, IsSection, header_bytes, car_bytes}
-use Rattle.files_car.specs.Versions.{begin_of, length_of, number_after}
-use Rattle.files_index.specs.Index.{EntryParts, index_bytes, width_of}
-use Rattle.files_index.specs.Leading.{HasRoom, IsIndexAt, StandsAmong}
-use Rattle.program_index.specs.Indexed.{entry_of, entries_of, version_2_header, indexed_bytes, AreEntries}
+use Rattle.files_car.specs.Versions.{begin_of, length_of}
+use Rattle.files_index.specs.Index.{EntryParts, index_bytes}
+use Rattle.files_index.specs.Leading.{HasRoom}
+use Rattle.program_index.specs.Indexed.{entry_of, entries_of, version_2_header, indexed_bytes}
 use Rattle.program_index.specs.Layouts.{index_field}
-use Rattle.program_index.specs.Finds.{BeginsSought, IsListed, written, IndexLists}
+use Rattle.program_index.specs.Finds.{written, IndexLists}
 
 -- the bytes some way after an offset
 after_front : (b xs rest : List ℕ) (p n : ℕ) → n ≡ length xs → drop p b ≡ xs ++ rest → drop (p + n) b ≡ rest

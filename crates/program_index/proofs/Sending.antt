@@ -12,7 +12,6 @@ use Rattle.program_index.specs.Indexed.{version_2_header, indexed_bytes, IsIndex
 use Rattle.program_index.specs.Steps.{IsGathered, ArePartsOf, SendsFile}
 use Rattle.program_index.specs.declared.gather.Gathered.{Gathered}
 use Rattle.program_index.specs.declared.index.Parts.{Parts}
-use Rattle.std.specs.Io.KnownBytes.{Appends}
 use Rattle.std.proofs.KnownBytes.{Appends-nil, Appends-trans}
 use Rattle.program_shared.specs.Writing.{WritesFront}
 

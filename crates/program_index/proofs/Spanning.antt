@@ -1,11 +1,10 @@
 -- What the first 51 bytes say about a file of version 2.
-use Rattle.std.proofs.Common.{◌≡◌, ℕ, ◌+◌, ◌-◌, ◌<◌, ◌≤◌, ◌^◌, List, ◌++◌, length, take, drop, sym, ap, ◌∙◌, subst, arith, Option, None, Some, Result, Ok, Err, MatchResult, IfSome}
+use Rattle.std.proofs.Common.{◌≡◌, ℕ, ◌+◌, ◌-◌, ◌<◌, ◌≤◌, ◌^◌, List, ◌++◌, length, take, drop, sym, ap, ◌∙◌, subst, arith, Option, None, Some}
 use Rattle.std.proofs.lemmas.List.{take-append-drop, length-take, take-take}
-use Rattle.files_car.specs.Versions.{pragma, number_after, begin_of, length_of, HasSpan, SpanFault}
+use Rattle.files_car.specs.Versions.{number_after, begin_of, length_of, HasSpan}
 use Rattle.files_car.specs.declared.version.Span.{Span}
 use Rattle.files_car.proofs.Starting.{number_on, span_on}
 use Rattle.program_index.specs.Spans.{IsSpanOf}
-use Rattle.program_index.specs.Layouts.{index_field, HasIndex}
 
 -- the first bytes of a file give its span
 first_numbers : (b : List ℕ) (n : ℕ) → n + 8 ≤ 51 → 51 ≤ length b → number_after n (take 51 b) ≡ number_after n b

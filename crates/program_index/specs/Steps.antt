@@ -1,8 +1,8 @@
 -- The steps that make an index.
-use Rattle.std.specs.Prelude.{◌≡◌, ℕ, ◌+◌, ◌≤◌, ◌<◌, ◌^◌, List, [], ◌∷◌, ◌++◌, length, take, drop, ⊤, Result, Ok, Err, MatchResult, Vec, Option, Bool, true, IfOk}
+use Rattle.std.specs.Prelude.{◌≡◌, ℕ, ◌+◌, List, [], ◌∷◌, ◌++◌, length, ⊤, Result, Ok, Err, MatchResult, Vec, Option, Bool, true, IfOk}
 use Rattle.std.specs.declared.alloc.Global.{Global}
 use Rattle.std.specs.declared.alloc.AllocError.{AllocError}
-use Rattle.files_car.specs.Car.{Section, section_bytes, header_bytes, car_bytes}
+use Rattle.files_car.specs.Car.{Section, section_bytes, car_bytes}
 use Rattle.files_car.specs.Versions.{IsFile}
 use Rattle.files_car.specs.Each.{SinkTakes}
 use Rattle.program_parts.specs.Holding.{TellsFault}

@@ -1,21 +1,34 @@
 -- How a line is written.
-use Rattle.std.proofs.Common.{◌≡◌, ◌↔◌, inl, inr, ℕ, ◌==◌, List, [], ◌∷◌, ◌++◌, length, Bool, true, IsTrue, ◌&&◌, eqb-true, refl, sym, ap, ◌∙◌, subst, append_assoc, append-nil, Option, Result, Ok, Err, OnOk, IsErrAnd}
+use Rattle.std.proofs.Common.{◌≡◌, ◌↔◌, inl, inr, ℕ, ◌==◌, List, [], ◌∷◌, ◌++◌, length, Bool, true, IsTrue, ◌&&◌, eqb-true, refl, sym, ap, ◌∙◌, subst, append_assoc, append-nil, Option, Result, Ok, Err, OnOk, IsErrAnd, Some}
 use Rattle.std.proofs.Math.Bool.{and-true, and_assoc}
 use Rattle.std.proofs.lemmas.List.{nil_from_length}
 use Rattle.std.specs.Io.KnownBytes.{Appends}
 use Rattle.std.proofs.KnownBytes.{Appends-nil}
-use Rattle.program_parts.specs.Lines.{IsSaidOfEach, SaysToDevice, SaysBoth, SaysLines}
+use Rattle.dagcbor_core.specs.Appends.{AppendsFront}
+use Rattle.dagcbor_core.specs.declared.error.EncodeError.{EncodeError}
+use Rattle.dagcbor_core.specs.declared.error.EncodeError.TheVariants as unsent
+use Rattle.dagcbor_heads.specs.Written.{Written, Stops}
+use Rattle.program_parts.specs.Lines.{IsSaidOfEach, TextFails, BreaksLine, SaysToDevice, SaysBoth, SaysLines}
 use Rattle.program_shared.specs.declared.fault.ToolError.{ToolError}
-use Rattle.program_shared.specs.declared.fault.ToolError.TheVariants.{Output}
+use Rattle.program_shared.specs.declared.fault.ToolError.TheVariants.{Input, Output, OutOfMemory}
 
 pub line_whole : (before after : Option (List ℕ)) (bytes text : List ℕ) → ((front back : List ℕ) × (bytes ≡ front ++ back) × Appends before after front × (back ≡ [])) → bytes ≡ text → Appends before after text
 line_whole before after bytes text k e = subst (Appends before after) (sym (k.2 ∙ ap (λ x. k.0 ++ x) k.4 ∙ append-nil k.0) ∙ e) k.3
 
+-- a fault of the device: a prefix of the text was written
+pub front_sent : {E : Type 0} (text : List ℕ) (old new : Written) (e : EncodeError E) (f : E) (before after : Option (List ℕ)) → Stops (Some text) old new e → e ≡ unsent.Write f → old.bytes ≡ before → new.bytes ≡ after → AppendsFront before after text
+front_sent text old new e f before after stops is b a = subst (λ x. AppendsFront x after text) b (subst (λ x. AppendsFront old.bytes x text) a (subst (Stops (Some text) old new) is stops).0)
+
+-- the lines of a run broke off in such a text
+pub text_breaks : (IsLine : List ℕ → Type 0) (text : List ℕ) (before after : Option (List ℕ)) (e : ToolError) → IsLine text → TextFails text before e after → BreaksLine IsLine before after e
+text_breaks IsLine text before after Output is k = inr (k.0, k.1, subst IsLine k.2 is, refl, k.3)
+text_breaks IsLine text before after OutOfMemory is same = inl (subst (λ x. Appends before x []) (sym same) (Appends-nil before))
+text_breaks IsLine text before after Input is k = absurd k
+
 -- these lines are the output
 pub lines_said : (IsSaid : Bool → List ℕ → Type 0) (said : List ℕ) (well : Bool) (before after : Option (List ℕ)) (r : Result Bool ToolError) → IsSaid well said → SaysLines said well before r after → SaysToDevice IsSaid before r after
 lines_said IsSaid said well before after (Ok answer) is k = (said, subst (λ w. IsSaid w said) (sym k.0) is, k.1)
-lines_said IsSaid said well before after (Err e) is (inl none) = inl none
-lines_said IsSaid said well before after (Err e) is (inr k) = inr (k.0, k.1, (well, subst (IsSaid well) (sym k.2) is), k.3, k.4)
+lines_said IsSaid said well before after (Err e) is k = text_breaks (λ out. (answer : Bool) × IsSaid answer out) said before after e (well, is) k
 
 -- these lines are the output and the error output
 pub both_said : (IsSaid : Bool → List ℕ → List ℕ → Type 0) (lines text : List ℕ) (well : Bool) (old heard : Option (List ℕ)) (r : Result Bool ToolError) (new after : Option (List ℕ)) → IsSaid well lines text

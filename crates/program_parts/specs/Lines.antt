@@ -1,6 +1,7 @@
 -- The lines that programs write about files and blocks, and how a line is written.
-use Rattle.std.specs.Prelude.{◌≡◌, ◌⊎◌, ℕ, List, [], ◌∷◌, ◌++◌, length, codes, Bool, true, false, ◌&&◌, Option, Result, MatchResult, decimal}
+use Rattle.std.specs.Prelude.{◌≡◌, ◌⊎◌, ℕ, List, [], ◌∷◌, ◌++◌, length, codes, Bool, true, false, ◌&&◌, Option, Result, Ok, Err, MatchResult, decimal}
 use Rattle.std.specs.Io.KnownBytes.{Appends}
+use Rattle.dagcbor_core.specs.Appends.{AppendsFront}
 use Rattle.text_cid.specs.Texts.{text_of_form, cid_text}
 use Rattle.files_car.specs.Car.{Section}
 use Rattle.files_car.specs.Told.{Told}
@@ -13,7 +14,7 @@ use Rattle.program_parts.specs.Codecs.{codec_text}
 use Rattle.program_parts.specs.Names.{cid_fault_name, fault_name, pb_cause_name}
 use Rattle.text_cid.specs.declared.error.CidTextError.{CidTextError}
 use Rattle.program_shared.specs.declared.fault.ToolError.{ToolError}
-use Rattle.program_shared.specs.declared.fault.ToolError.TheVariants.{Output}
+use Rattle.program_shared.specs.declared.fault.ToolError.TheVariants.{Input, Output, OutOfMemory}
 
 -- the text, and a line feed
 abbrev pub line : List ℕ → List ℕ
@@ -73,7 +74,21 @@ IsSaidOfEach IsSaid (x ∷ xs) well out = (first others : Bool) × (line lines :
     × IsSaid x first line × IsSaidOfEach IsSaid xs others lines
     × (well ≡ (first && others)) × (out ≡ line ++ lines)
 
--- nothing more was written; or the device failed after a prefix of such a line
+-- why a text is not written: the device failed, after a prefix of it; or memory ran out, and
+-- nothing is written
+abbrev pub TextFails : List ℕ → Option (List ℕ) → ToolError → Option (List ℕ) → Type 0
+TextFails text before Output after = AppendsFront before after text
+TextFails text before OutOfMemory after = after ≡ before
+TextFails text before Input after = ⊥
+
+-- the text was written, or not all of it
+abbrev pub SaysText : {A : Type 0} → List ℕ
+    → Option (List ℕ) → Result A ToolError → Option (List ℕ) → Type 0
+SaysText text before (Ok v) after = Appends before after text
+SaysText text before (Err e) after = TextFails text before e after
+
+-- the lines of a run broke off: nothing more was written; or the device failed after a prefix of
+-- such a line
 abbrev pub BreaksLine : (List ℕ → Type 0) → Option (List ℕ) → Option (List ℕ) → ToolError → Type 0
 BreaksLine IsLine old new e = Appends old new []
     ⊎ ((front back : List ℕ) × IsLine (front ++ back) × (e ≡ Output) × Appends old new front)
@@ -86,13 +101,11 @@ SaysToDevice IsSaid old result new = MatchResult result
     (λ well. (out : List ℕ) × IsSaid well out × Appends old new out)
     (λ e. BreaksLine (λ out. (well : Bool) × IsSaid well out) old new e)
 
--- these lines were written, and the answer is whether all is well; or nothing more was written; or
--- the device failed after a prefix
+-- these lines were written, and the answer is whether all is well; or not all of them
 abbrev pub SaysLines : List ℕ → Bool → Option (List ℕ) → Result Bool ToolError
     → Option (List ℕ) → Type 0
-SaysLines said well old result new = MatchResult result
-    (λ answer. (answer ≡ well) × Appends old new said)
-    (λ e. BreaksLine (λ out. out ≡ said) old new e)
+SaysLines said well old (Ok answer) new = (answer ≡ well) × Appends old new said
+SaysLines said well old (Err e) new = TextFails said old e new
 
 -- the output and the error lines were written, and the answer is whether all is well; or nothing
 -- was written; or a device failed after prefixes of both

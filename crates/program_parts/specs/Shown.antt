@@ -1,8 +1,7 @@
 -- What programs say of bytes as a block: its data, or why they are not one.
-use Rattle.std.specs.Prelude.{◌≡◌, ◌≢◌, ◌⊎◌, ℕ, List, [], ◌++◌, codes, Bool, true, false, decimal, if◌then◌else◌}
+use Rattle.std.specs.Prelude.{◌≡◌, ◌⊎◌, ℕ, List, [], ◌++◌, codes, Bool, true, false, decimal, if◌then◌else◌}
 use Rattle.std.specs.declared.convert.Infallible.{Infallible}
 use Rattle.dagcbor_core.specs.declared.error.DecodeError.{DecodeError}
-use Rattle.dagcbor_core.specs.declared.error.DecodeError.TheVariants as unread
 use Rattle.ipld_tree.specs.Tree.{Tree}
 use Rattle.text_dag_json.specs.DagJson.{dag_json, has_reserved_key}
 use Rattle.dagcbor_decode.specs.Verdicts.{IsRefusedAt}

@@ -1,6 +1,5 @@
 -- How sections are divided into parts.
-use Rattle.std.specs.Bool.{⊤}
-use Rattle.std.proofs.Common.{◌≡◌, ◌≢◌, ◌⊎◌, inl, inr, ℕ, zero, suc, ◌+◌, ◌-◌, ◌≤◌, ◌<◌, List, [], ◌∷◌, ◌++◌, length, map, append-nil, append_assoc, flat_map, nat_le, Bool, true, false, not, ◌||◌, if◌then◌else◌, MatchBool, refl, sym, ap, ◌∙◌, subst, Option, Some, None, Result, Ok, Err, MatchResult, string_bytes, arith, length-append, leb-true}
+use Rattle.std.proofs.Common.{◌≡◌, ◌≢◌, ◌⊎◌, inl, inr, ℕ, suc, ◌+◌, ◌-◌, ◌≤◌, ◌<◌, List, [], ◌∷◌, ◌++◌, length, map, append-nil, append_assoc, flat_map, nat_le, Bool, true, false, not, ◌||◌, if◌then◌else◌, MatchBool, refl, sym, ap, ◌∙◌, subst, Option, Some, None, Result, Ok, Err, arith, length-append, leb-true}
 use Rattle.std.specs.List.{AllByRecursion}
 use Rattle.std.specs.Io.KnownBytes.{Appends}
 use Rattle.std.proofs.lemmas.Grind.{flat_map-append}

@@ -1,30 +1,27 @@
 -- How a split ends.
-use Rattle.std.specs.Bool.{⊤}
-use Rattle.std.proofs.Common.{◌≡◌, ◌≢◌, ◌⊎◌, inl, inr, ℕ, ◌+◌, ◌-◌, List, [], ◌∷◌, ◌++◌, length, append-nil, append_assoc, Bool, true, false, refl, sym, ap, ◌∙◌, subst, Option, Some, Result, Ok, Err, MatchResult, String, string_bytes}
+use Rattle.std.proofs.Common.{◌≡◌, ◌⊎◌, inl, inr, ℕ, ◌+◌, ◌-◌, List, [], ◌∷◌, ◌++◌, length, append-nil, Bool, false, refl, sym, ap, ◌∙◌, subst, Option, Some, Result, Ok, Err, MatchResult, String, string_bytes}
 use Rattle.std.specs.Io.KnownBytes.{Appends}
 use Rattle.std.proofs.KnownBytes.{Appends-nil}
 use Rattle.std.specs.declared.alloc.Global.{Global}
-use Rattle.std.specs.declared.convert.Infallible.{Infallible}
 use Rattle.ipld_tree.specs.Cid.{CidParts}
 use Rattle.dagcbor_items.specs.Walks.{forms}
-use Rattle.files_car.specs.Car.{Section, car_bytes, section_bytes, header_bytes}
-use Rattle.files_car.specs.Checks.{IsFileFront}
+use Rattle.files_car.specs.Car.{Section, car_bytes, section_bytes}
 use Rattle.files_car.specs.Each.{SinkTakes}
 use Rattle.files_car.specs.Sources.{CarRefuses, RefusesStart}
 use Rattle.files_car.specs.declared.error.CarError.{CarError}
 use Rattle.files_car.proofs.Places.{no_file}
 use Rattle.dagcbor_heads.specs.Reading.{Reading}
-use Rattle.program_parts.specs.Lines.{BreaksLine, refused_line}
+use Rattle.program_parts.specs.Lines.{refused_line}
 use Rattle.program_parts.specs.Taking.{IsOfBytes, TookEach, TakesFileFront, EndsAt}
 use Rattle.program_parts.proofs.Taking.{took_knows, alone, alone_line, header_alone}
 use Rattle.program_parts.specs.declared.take.Ended.{Ended}
 use Rattle.program_parts.specs.declared.take.Ended.TheVariants as ended
 use Rattle.program_shared.specs.declared.fault.ToolError.{ToolError}
-use Rattle.program_shared.specs.declared.fault.ToolError.TheVariants.{Output}
+use Rattle.program_shared.specs.declared.fault.ToolError.TheVariants.{Input, Output, OutOfMemory}
 use Rattle.program_sections.specs.NewFiles.{Named, AddsFiles}
-use Rattle.program_sections.specs.Parts.{parts, part_name, roots_of_parts, split_files}
+use Rattle.program_sections.specs.Parts.{part_name, roots_of_parts, split_files}
 use Rattle.program_sections.specs.Splitting.{IsSplitOf, IsSplitFront, HasSections, Splits, Making, making, there_line}
-use Rattle.program_sections.specs.SplitSteps.{IsFaultOf, Work, goes_in, IsFinished, SplitsSection, IsPlanOf, Made, made, FinishesLast, EndsParts, Begun, BreaksParts, SplitsEnded, EndsTold, TellsSplit}
+use Rattle.program_sections.specs.SplitSteps.{IsFaultOf, Work, goes_in, IsFinished, SplitsSection, IsPlanOf, Made, made, FinishesLast, EndsParts, BreaksParts, SplitsEnded, EndsTold, TellsSplit}
 use Rattle.program_sections.specs.declared.split_words.Split.{Split}
 use Rattle.program_sections.specs.declared.part.Plan.{Plan}
 use Rattle.program_sections.specs.declared.part.PartFault.{PartFault}
@@ -148,8 +145,9 @@ module _ (asked : Split) (b : List ℕ) (m : Making) (heard : Option (List ℕ))
 
   pub ends_told : (end : SplitEnd) (files : List Named) (line : List ℕ) (r : Result SplitEnd ToolError) (after : Option (List ℕ)) → IsSplitOf asked b m.has end files line → AddsFiles m.old m.new files → EndsTold end line heard r after → Splits asked b m heard r after
   ends_told end files line (Ok answer) after is adds h = (files, line, subst (λ x. IsSplitOf asked b m.has x files line) (sym h.0) is, adds, h.1)
-  ends_told end files line (Err e) after is adds (inl none) = inl (files, front_of end files line is, adds, none)
-  ends_told end files line (Err e) after is adds (inr h) = inr (end, files, h.0, h.1, subst (IsSplitOf asked b m.has end files) (sym h.2) is, h.3, adds, h.4)
+  ends_told end files line (Err Output) after is adds h = inr (end, files, h.0, h.1, subst (IsSplitOf asked b m.has end files) h.2 is, refl, adds, h.3)
+  ends_told end files line (Err OutOfMemory) after is adds same = inl (files, front_of end files line is, adds, subst (λ x. Appends heard x []) (sym same) (Appends-nil heard))
+  ends_told end files line (Err Input) after is adds h = absurd h
 
   -- the run broke off, and no error line was written
   pub broke_off : (e : ToolError) (r : Result SplitEnd ToolError) (after : Option (List ℕ)) → BreaksParts asked b m → (r ≡ Err e) → after ≡ heard → Splits asked b m heard r after

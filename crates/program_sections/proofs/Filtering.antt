@@ -1,6 +1,5 @@
 -- What a filter writes.
-use Rattle.std.specs.Bool.{⊤}
-use Rattle.std.proofs.Common.{◌≡◌, inl, inr, ℕ, ◌==◌, List, [], ◌∷◌, ◌++◌, length, append-nil, append_assoc, take, get_or, ◌+◌, ◌<◌, not, Bool, true, false, if◌then◌else◌, refl, sym, ap, ◌∙◌, subst, Option, Some, Result, Ok, Err, MatchResult, IsErrAnd, flat_map, map}
+use Rattle.std.proofs.Common.{◌≡◌, inl, inr, ℕ, ◌==◌, List, [], ◌∷◌, ◌++◌, length, append-nil, append_assoc, take, get_or, ◌+◌, ◌<◌, Bool, true, false, if◌then◌else◌, refl, sym, ap, ◌∙◌, subst, Option, Some, Result, Ok, Err, MatchResult, IsErrAnd, flat_map, map}
 use Rattle.std.specs.List.{filter}
 use Rattle.std.proofs.lemmas.List.{take_more}
 use Rattle.std.specs.BTreeSet.{insert_key}
@@ -8,31 +7,31 @@ use Rattle.std.proofs.lemmas.Grind.{flat_map-append}
 use Rattle.std.proofs.lemmas.List.Elements.{filter-append}
 use Rattle.std.specs.Io.KnownBytes.{Appends}
 use Rattle.std.proofs.KnownBytes.{Appends-nil, Appends-trans}
-use Rattle.std.specs.declared.convert.Infallible.{Infallible}
 use Rattle.ipld_tree.specs.Cid.{CidParts, cid_cmp}
 use Rattle.dagcbor_items.specs.Walks.{forms}
 use Rattle.files_car.specs.Car.{Section, section_bytes, header_bytes, car_bytes}
 use Rattle.files_car.specs.Versions.{IsFile}
-use Rattle.files_car.specs.Checks.{IsFileFront, IsNoFile}
+use Rattle.files_car.specs.Checks.{IsFileFront}
 use Rattle.files_car.specs.Each.{SinkTakes}
 use Rattle.dagcbor_heads.specs.Reading.{Reading}
 use Rattle.files_car.specs.Extents.{bytes_within, wanting}
-use Rattle.files_car.specs.Sources.{RefusesStart, RefusesSection, TakesStart}
+use Rattle.files_car.specs.Sources.{RefusesStart, TakesStart}
 use Rattle.files_car.proofs.Places.{place_front, no_file}
-use Rattle.program_parts.specs.Lines.{missing_line, refused_line, BreaksLine, SaysLines}
+use Rattle.program_parts.specs.Lines.{missing_line, refused_line, TextFails, SaysLines}
 use Rattle.program_inspect.specs.Names.{distinct}
 use Rattle.program_inspect.proofs.Counting.{distinct_push, map_push}
 use Rattle.program_parts.specs.Taking.{TookEach, TakesFileFront, EndsAt}
 use Rattle.program_parts.proofs.Taking.{took_knows, left_begun, alone, alone_line, header_alone}
+use Rattle.program_parts.proofs.Saying.{text_breaks}
 use Rattle.program_parts.specs.Taking.{IsOfBytes}
 use Rattle.files_car.specs.Sources.{CarRefuses}
 use Rattle.program_parts.specs.declared.take.Ended.{Ended}
 use Rattle.program_parts.specs.declared.take.Ended.TheVariants as ended
 use Rattle.files_car.specs.declared.error.CarError.{CarError}
 use Rattle.program_shared.specs.declared.fault.ToolError.{ToolError}
-use Rattle.program_sections.specs.Kept.{keeps, kept_sections, roots_of, found_in, missing_of, note}
-use Rattle.program_sections.specs.Sending.{SendsText, SaysSent}
-use Rattle.program_sections.specs.Filtering.{filtered, missing_in, IsFiltered, IsFilteredBefore, IsFilteredFront}
+use Rattle.program_sections.specs.Kept.{keeps, kept_sections, roots_of, found_in, missing_of}
+use Rattle.program_sections.specs.Sending.{SaysSent}
+use Rattle.program_sections.specs.Filtering.{filtered, missing_in, IsFiltered, IsFilteredFront}
 use Rattle.program_sections.specs.Steps.{Work, Filters, sent_of, found_with, TellsRest}
 use Rattle.program_sections.specs.declared.kept.Kept.{Kept}
 use Rattle.program_sections.specs.declared.kept.Kept.TheVariants.{Codec, Named}
@@ -138,8 +137,10 @@ module _ {S : Type 0} (takes : SinkTakes S ToolError) (work : S → Work) (step 
   all_told (Ok (ended.Stopped e)) kept r after same h told =
       let at = sent_each h.first.sections h.it h.first.took in
       let k = step h.section h.it (Err e) new h.refused in
-      let broke : BreaksLine (λ out. out ≡ sent_of f.kept h.section) (work h.it).written (work new).written e = subst (λ x. BreaksLine (λ out. out ≡ sent_of x h.section) (work h.it).written (work new).written e) at.kept k.2 in
-      broke_so IsOut IsAll first heard (work new).written (work h.it).written (filtered f roots h.first.sections) (sent_of f.kept h.section) r e after at.out
+      let sent = sent_of f.kept h.section in
+      let fails : TextFails sent (work h.it).written e (work new).written = subst (λ x. TextFails (sent_of x h.section) (work h.it).written e (work new).written) at.kept k.2 in
+      let broke = text_breaks (λ out. out ≡ sent) sent (work h.it).written (work new).written e refl fails in
+      broke_so IsOut IsAll first heard (work new).written (work h.it).written (filtered f roots h.first.sections) sent r e after at.out
       (out_of h.first.sections h.first.wanting h.first.rest h.first.front)
       (subst IsOut (sym (filtered_push f roots h.first.sections h.section)) (out_of (h.first.sections ++ h.section ∷ []) h.wanting h.rest h.front))
       broke told.0 told.1
@@ -163,11 +164,11 @@ begun_front roots extent start source b h l =
     let w = left_begun roots extent start source b h l in
     (wanting extent w.0, bytes_within extent w.0, place_front b w.0 roots [] extent w.2)
 
-pub header_broke : (f : Filter) (roots : List CidParts) (extent : Option ℕ) (start source : Reading) (b : List ℕ) (old heard new : Option (List ℕ)) (r : Result Bool ToolError) (e : ToolError) → TakesStart start (forms roots) extent source → start.left ≡ Some b → IsErrAnd r (λ x. x ≡ e) → SendsText (header_bytes (forms (roots_of f.roots.items f.kept roots))) old (Err e) new → SaysSent (IsFilteredFront f b) (IsFiltered f b) old heard r new heard
-header_broke f roots extent start source b old heard new r e h l is broke =
+pub header_broke : (f : Filter) (roots : List CidParts) (extent : Option ℕ) (start source : Reading) (b : List ℕ) (old heard new : Option (List ℕ)) (r : Result Bool ToolError) (e : ToolError) → TakesStart start (forms roots) extent source → start.left ≡ Some b → IsErrAnd r (λ x. x ≡ e) → TextFails (header_bytes (forms (roots_of f.roots.items f.kept roots))) old e new → SaysSent (IsFilteredFront f b) (IsFiltered f b) old heard r new heard
+header_broke f roots extent start source b old heard new r e h l is fails =
     let k = begun_front (forms roots) extent start source b h l in
     let header = header_bytes (forms (roots_of f.roots.items f.kept roots)) in
-    broke_so (IsFilteredFront f b) (IsFiltered f b) old heard new old [] header r e heard (Appends-nil old) (inl refl) (inr (roots, [], k.0, k.1, k.2, sym (append-nil header))) broke (err_is r e is) refl
+    broke_so (IsFilteredFront f b) (IsFiltered f b) old heard new old [] header r e heard (Appends-nil old) (inl refl) (inr (roots, [], k.0, k.1, k.2, sym (append-nil header))) (text_breaks (λ out. out ≡ header) header old new e refl fails) (err_is r e is) refl
 
 pub start_refused : {E : Type 0} (f : Filter) (source now : Reading) (error : CarError E) (b line : List ℕ) → CarRefuses RefusesStart source error now → IsOfBytes error → line ≡ refused_line error → source.left ≡ Some b → IsFiltered f b false [] line
 start_refused f source now error b line h is tells l =

@@ -1,5 +1,5 @@
 -- What a merge writes.
-use Rattle.std.proofs.Common.{◌≡◌, ◌↔◌, ◌⊎◌, inl, inr, ℕ, ◌+◌, ◌^◌, List, [], ◌∷◌, ◌++◌, length, length-append, append-nil, append_assoc, map, Bool, true, false, refl, sym, ap, ◌∙◌, subst, arith, Option, None, Some, Result, Ok, Err, MatchResult, MatchOption, IfOk, IsErrAnd, flat_map, Vec, Global}
+use Rattle.std.proofs.Common.{◌≡◌, ◌↔◌, ◌⊎◌, inl, inr, ℕ, ◌+◌, List, [], ◌∷◌, ◌++◌, length, length-append, append-nil, append_assoc, map, Bool, true, false, refl, sym, ap, ◌∙◌, subst, arith, Option, None, Some, Result, Ok, Err, MatchResult, MatchOption, IsErrAnd, flat_map, Vec, Global}
 use Rattle.std.proofs.lemmas.Grind.{flat_map-append}
 use Rattle.std.specs.Io.KnownBytes.{Appends}
 use Rattle.std.proofs.KnownBytes.{Appends-nil, Appends-trans}
@@ -13,19 +13,20 @@ use Rattle.ipld_links.specs.declared.held.HeldNames.{HeldNames}
 use Rattle.ipld_links.proofs.Members.{among_push, push_among}
 use Rattle.files_car.specs.Car.{Section, section_bytes, header_bytes, car_bytes}
 use Rattle.files_car.specs.Versions.{IsFile}
-use Rattle.files_car.specs.Checks.{IsHeldInFile, IsFileFront, IsNoFile}
+use Rattle.files_car.specs.Checks.{IsHeldInFile, IsNoFile}
 use Rattle.files_car.specs.Each.{SinkTakes}
-use Rattle.files_car.specs.Sources.{CarRefuses, RefusesStart, RefusesSection, TakesStart}
+use Rattle.files_car.specs.Sources.{CarRefuses, RefusesStart, TakesStart}
 use Rattle.files_car.specs.declared.error.CarError.{CarError}
 use Rattle.files_car.proofs.Places.{no_file}
-use Rattle.program_parts.specs.Lines.{refused_line, BreaksLine, SaysLines}
+use Rattle.program_parts.specs.Lines.{refused_line, TextFails}
 use Rattle.program_parts.specs.Taking.{TookEach, TakesFileFront, EndsAt, IsOfBytes}
 use Rattle.program_parts.specs.declared.take.Ended.{Ended}
 use Rattle.program_parts.specs.declared.take.Ended.TheVariants as ended
 use Rattle.program_parts.proofs.Taking.{took_knows, ends_same, alone, alone_line, header_alone}
+use Rattle.program_parts.proofs.Saying.{text_breaks}
 use Rattle.program_shared.specs.declared.fault.ToolError.{ToolError}
-use Rattle.program_sections.specs.Sending.{SendsText, SaysSent}
-use Rattle.program_sections.specs.Merging.{once_with, merged_roots, IsMerged, IsMergedFile, AreFiles, BeginFiles, FilesFront, file_line, TellsNoneBegins, TellsBreak, IsMergedOf, IsMergedFront}
+use Rattle.program_sections.specs.Sending.{SaysSent}
+use Rattle.program_sections.specs.Merging.{once_with, merged_roots, IsMerged, AreFiles, BeginFiles, FilesFront, file_line, TellsNoneBegins, TellsBreak, IsMergedOf, IsMergedFront}
 use Rattle.program_sections.specs.MergeSteps.{AddsRoots, Work, HoldsIt, Merges, Sent, BreaksSections, Place, IsAfter, HasFirst, TellsFileBreak, MergesFile, TellsEnd, AreAfter, MergesFiles, AreLeft, BeginsOne, BeginsAll, place_of, given_or, TellsFault}
 use Rattle.program_sections.specs.declared.merge.Begun.{Begun}
 use Rattle.program_sections.specs.declared.merge.Following.{Following}
@@ -154,7 +155,7 @@ module _ {S : Type 0} (takes : SinkTakes S ToolError) (work : S → Work) (step 
         (at.left, at.merged, refl),
         (at.left ++ h.section ∷ [], subst (λ l. IsMerged [] l (at.left ++ h.section ∷ [])) (append_assoc done h.first.sections (h.section ∷ [])) more, car_push (forms roots) at.left h.section),
         at.out,
-        k.1.1,
+        text_breaks (λ out. out ≡ section_bytes h.section) (section_bytes h.section) (work h.it).written (work new).written e refl k.1.1,
       ) in
       subst Merged (sym told) broke
   file_merged (Ok (ended.Fault line)) (Ok None) h told = absurd told
@@ -369,15 +370,15 @@ none_of (b ∷ bs) roots (at ∷ places) (first, more, is, m, rest, e) =
       begin = begin_of 2 bs more places rest;
     })
 
-pub header_sent : (given listed roots : List CidParts) (old new : Option (List ℕ)) → listed ≡ once_with [] roots → SendsText (header_bytes (forms (given_or given listed))) old (Ok tt) new → Appends old new (header_bytes (forms (merged_roots given roots)))
+pub header_sent : (given listed roots : List CidParts) (old new : Option (List ℕ)) → listed ≡ once_with [] roots → Appends old new (header_bytes (forms (given_or given listed))) → Appends old new (header_bytes (forms (merged_roots given roots)))
 header_sent given listed roots old new e h = subst (λ l. Appends old new (header_bytes (forms l))) (given_same given listed roots e) h
 
-pub merge_header_broke : (bs : List (List ℕ)) (given listed roots : List CidParts) (places : List Place) (old heard new : Option (List ℕ)) (r : Result Bool ToolError) (e : ToolError) → AreAfter 1 bs roots places → listed ≡ once_with [] roots → IsErrAnd r (λ x. x ≡ e) → SendsText (header_bytes (forms (given_or given listed))) old (Err e) new → SaysSent (IsMergedFront given bs) (IsMergedOf given bs) old heard r new heard
-merge_header_broke bs given listed roots places old heard new r e following same is broke =
+pub merge_header_broke : (bs : List (List ℕ)) (given listed roots : List CidParts) (places : List Place) (old heard new : Option (List ℕ)) (r : Result Bool ToolError) (e : ToolError) → AreAfter 1 bs roots places → listed ≡ once_with [] roots → IsErrAnd r (λ x. x ≡ e) → TextFails (header_bytes (forms (given_or given listed))) old e new → SaysSent (IsMergedFront given bs) (IsMergedOf given bs) old heard r new heard
+merge_header_broke bs given listed roots places old heard new r e following same is fails =
     let header = header_bytes (forms (merged_roots given roots)) in
     broke_so (IsMergedFront given bs) (IsMergedOf given bs) old heard new old [] header r e heard (Appends-nil old) (inl refl)
     (inr (roots, [], none_of bs roots places following, ([], refl, sym (append-nil header))))
-    (subst (λ l. BreaksLine (λ out. out ≡ header_bytes (forms l)) old new e) (given_same given listed roots same) broke) (err_is r e is) refl
+    (text_breaks (λ out. out ≡ header) header old new e refl (subst (λ l. TextFails (header_bytes (forms l)) old e new) (given_same given listed roots same) fails)) (err_is r e is) refl
 
 -- ---- the headers
 

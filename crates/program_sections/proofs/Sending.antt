@@ -1,29 +1,20 @@
 -- How a file is written, piece by piece.
-use Rattle.std.specs.Bool.{⊤}
-use Rattle.std.proofs.Common.{◌≡◌, inl, inr, List, ℕ, [], ◌++◌, append-nil, append_assoc, Bool, IsTrue, refl, sym, ap, ◌∙◌, subst, ◌∷◌, IsErrAnd, IfSome, Option, Some, Result, Ok, Err}
+use Rattle.std.proofs.Common.{◌≡◌, inl, inr, List, ℕ, [], ◌++◌, append-nil, append_assoc, Bool, refl, sym, ap, ◌∙◌, subst, ◌∷◌, IsErrAnd, Option, Result, Ok, Err}
 use Rattle.std.specs.Io.KnownBytes.{Appends}
 use Rattle.std.proofs.KnownBytes.{Appends-nil, Appends-trans}
-use Rattle.dagcbor_heads.specs.Written.{Written, Stops, WroteFront}
-use Rattle.dagcbor_core.specs.declared.error.EncodeError.{EncodeError}
-use Rattle.dagcbor_core.specs.declared.error.EncodeError.TheVariants as unsent
 use Rattle.program_shared.specs.declared.fault.ToolError.{ToolError}
-use Rattle.program_shared.specs.declared.fault.ToolError.TheVariants.{Output}
+use Rattle.program_shared.specs.declared.fault.ToolError.TheVariants.{Input, Output, OutOfMemory}
 use Rattle.program_parts.specs.Lines.{BreaksLine, SaysLines, SaysBoth}
 use Rattle.program_parts.proofs.Saying.{both_said}
-use Rattle.program_sections.specs.Sending.{SendsText, BreaksSent, SaysSent}
-
--- a fault of the device: a prefix of the text was written
-pub front_sent : {E : Type 0} (text : List ℕ) (old new : Written) (e : EncodeError E) (f : E) (before after : Option (List ℕ)) → Stops (Some text) old new e → e ≡ unsent.Write f → old.bytes ≡ before → new.bytes ≡ after → BreaksLine (λ out. out ≡ text) before after Output
-front_sent text old new e f before after stops is b a =
-    let k = (subst (Stops (Some text) old new) is stops).0 in
-    inr (k.0, k.1, sym k.2, refl, subst (λ x. Appends x after k.0) b (subst (λ x. Appends old.bytes x k.0) a k.3))
+use Rattle.program_sections.specs.Sending.{SaysSent}
 
 module _ (IsFirst : List ℕ → Type 0) (IsSaid : Bool → List ℕ → List ℕ → Type 0) (old heard new : Option (List ℕ)) where
   -- the whole output was written, and then the error lines
   pub told_so : (said text : List ℕ) (well : Bool) (r : Result Bool ToolError) (after : Option (List ℕ)) → Appends old new said → IsFirst said → IsSaid well said text → SaysLines text well heard r after → SaysSent IsFirst IsSaid old heard r new after
   told_so said text well (Ok answer) after out first is h = (said, text, subst (λ w. IsSaid w said text) (sym h.0) is, out, h.1)
-  told_so said text well (Err e) after out first is (inl none) = inl (said, [], subst IsFirst (sym (append-nil said)) first, inl refl, out, none)
-  told_so said text well (Err e) after out first is (inr h) = inr (well, said, h.0, h.1, subst (IsSaid well said) (sym h.2) is, h.3, out, h.4)
+  told_so said text well (Err Output) after out first is h = inr (well, said, h.0, h.1, subst (IsSaid well said) h.2 is, refl, out, h.3)
+  told_so said text well (Err OutOfMemory) after out first is same = inl (said, [], subst IsFirst (sym (append-nil said)) first, inl refl, out, subst (λ x. Appends heard x []) (sym same) (Appends-nil heard))
+  told_so said text well (Err Input) after out first is h = absurd h
 
   -- the run broke off after what was written
   pub stopped_so : (said : List ℕ) (r : Result Bool ToolError) (e : ToolError) (after : Option (List ℕ)) → Appends old new said → IsFirst said → r ≡ Err e → after ≡ heard → SaysSent IsFirst IsSaid old heard r new after

@@ -1,5 +1,5 @@
 -- Which sections of a file are kept.
-use Rattle.std.specs.Prelude.{ℕ, ◌==◌, List, [], ◌∷◌, Bool, not, map}
+use Rattle.std.specs.Prelude.{◌==◌, List, [], ◌∷◌, Bool, not, map}
 use Rattle.std.specs.List.{filter}
 use Rattle.std.specs.BTreeSet.{insert_key}
 use Rattle.ipld_tree.specs.Cid.{CidParts, cid_cmp}

@@ -1,5 +1,5 @@
 -- The steps of `merge`.
-use Rattle.std.specs.Prelude.{◌≡◌, ◌⊎◌, ◌↔◌, ℕ, ◌+◌, List, [], ◌∷◌, ◌++◌, map, Option, None, Some, Result, Ok, Err, MatchResult, MatchOption, IfOk, OnOk, Vec, Bool, true, false, ⊤}
+use Rattle.std.specs.Prelude.{◌≡◌, ◌⊎◌, ◌↔◌, ℕ, ◌+◌, List, [], ◌∷◌, ◌++◌, map, Option, None, Some, Result, Ok, Err, MatchResult, MatchOption, IfOk, Vec, Bool, true, false, ⊤}
 use Rattle.std.specs.declared.alloc.Global.{Global}
 use Rattle.std.specs.Io.KnownBytes.{Appends}
 use Rattle.std.specs.declared.convert.Infallible.{Infallible}
@@ -15,7 +15,7 @@ use Rattle.files_car.specs.declared.error.CarError.{CarError}
 use Rattle.ipld_links.specs.Verdicts.{IsVerified}
 use Rattle.ipld_links.specs.Held.{IsHeldName, AddsName}
 use Rattle.ipld_links.specs.declared.held.HeldNames.{HeldNames}
-use Rattle.program_parts.specs.Lines.{BreaksLine, SaysLines, refused_line}
+use Rattle.program_parts.specs.Lines.{TextFails, BreaksLine, SaysLines, refused_line}
 use Rattle.program_sections.specs.Merging.{once_with, IsMerged, IsMergedFile, AreFiles, FilesFront, TellsNoneBegins, TellsBreak, file_line, merged_roots, IsMergedOf, IsMergedFront}
 use Rattle.program_sections.specs.Sending.{SaysSent}
 use Rattle.program_sections.specs.Steps.{Run}
@@ -60,7 +60,7 @@ Merges s old result new = (new.through ≡ old.through) × MatchResult result
     (λ _. (IsHeldName s.0 old.held × (new.held ≡ old.held) × (new.written ≡ old.written))
     ⊎ ((¬ IsHeldName s.0 old.held) × HoldsIt s old.held new.held
     × Appends old.written new.written (section_bytes s)))
-    (λ e. (¬ IsHeldName s.0 old.held) × BreaksLine (λ out. out ≡ section_bytes s) old.written new.written e)
+    (λ e. (¬ IsHeldName s.0 old.held) × TextFails (section_bytes s) old.written e new.written)
 
 -- the names held, and the output, after the header with these roots and these sections
 pub record Sent (roots : List CidParts) (first : Option (List ℕ)) (w : Work) (done : List Section) : Type 0 where

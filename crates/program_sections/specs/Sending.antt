@@ -1,14 +1,8 @@
 -- How a file is written, piece by piece.
 use Rattle.std.specs.Prelude.{◌≡◌, ◌⊎◌, List, ℕ, [], ◌++◌, Bool, Option, Result, MatchResult}
 use Rattle.std.specs.Io.KnownBytes.{Appends}
-use Rattle.program_parts.specs.Lines.{BreaksLine}
 use Rattle.program_shared.specs.declared.fault.ToolError.{ToolError}
 use Rattle.program_shared.specs.declared.fault.ToolError.TheVariants.{Output}
-
--- the text was written; or nothing was; or the device failed after a prefix
-abbrev pub SendsText : List ℕ → Option (List ℕ) → Result (Unit {0}) ToolError → Option (List ℕ) → Type 0
-SendsText text old result new = MatchResult result (λ _. Appends old new text)
-    (λ e. BreaksLine (λ out. out ≡ text) old new e)
 
 -- The output of a run that broke off. Either the output for the first sections, whole or, if the
 -- device failed, a prefix of it, and no error line; or the whole output, and a prefix of the error

@@ -1,20 +1,16 @@
 -- The steps of `split`.
-use Rattle.std.specs.Prelude.{◌≡◌, ◌≢◌, ◌⊎◌, ℕ, ◌+◌, ◌-◌, List, [], ◌∷◌, ◌++◌, length, nat_le, not, ◌||◌, Bool, true, false, MatchBool, Option, Some, Result, Ok, Err, MatchResult, string_bytes, ⊤}
+use Rattle.std.specs.Prelude.{◌≡◌, ◌≢◌, ◌⊎◌, ℕ, ◌+◌, ◌-◌, List, [], ◌∷◌, length, nat_le, not, ◌||◌, Bool, true, false, MatchBool, Option, Some, Result, Ok, Err, MatchResult, string_bytes, ⊤}
 use Rattle.std.specs.Io.KnownBytes.{Appends}
-use Rattle.std.specs.declared.convert.Infallible.{Infallible}
 use Rattle.dagcbor_heads.specs.Reading.{Reading}
 use Rattle.ipld_tree.specs.Cid.{CidParts}
 use Rattle.dagcbor_items.specs.Walks.{forms}
 use Rattle.files_car.specs.Car.{Section, section_bytes, header_bytes}
-use Rattle.files_car.specs.Versions.{IsFile}
-use Rattle.files_car.specs.Sources.{TakesStart, RefusesSection}
-use Rattle.files_car.specs.Checks.{IsFileFront, IsNoFile}
-use Rattle.files_car.specs.declared.error.CarError.{CarError}
-use Rattle.program_parts.specs.Lines.{refused_line, BreaksLine}
+use Rattle.files_car.specs.Sources.{TakesStart}
+use Rattle.program_parts.specs.Lines.{TextFails}
 use Rattle.program_parts.specs.declared.take.Ended.{Ended}
 use Rattle.program_parts.specs.declared.take.Ended.TheVariants as ended
 use Rattle.program_sections.specs.NewFiles.{Named, AddsFiles}
-use Rattle.program_sections.specs.Parts.{part_name, roots_of_parts, split_files}
+use Rattle.program_sections.specs.Parts.{part_name, roots_of_parts}
 use Rattle.program_sections.specs.Splitting.{IsSplitOf, IsSplitFront, Splits, Making, there_line}
 use Rattle.program_sections.specs.Steps.{Following}
 use Rattle.program_sections.specs.declared.split_words.Split.{Split}
@@ -195,10 +191,10 @@ SplitsSections plan extent source result m = (start : Reading) (roots : List Cid
     → TakesStart start (forms roots) extent source → start.left ≡ Some b → IsPlanOf roots plan
     → SplitsEnded plan.asked.now b result m
 
--- the split ended thus, and the line was written; or none of it, or a prefix if the device failed
+-- the split ended thus, and the line was written; or not all of it
 abbrev pub EndsTold : SplitEnd → List ℕ → Option (List ℕ) → Result SplitEnd ToolError → Option (List ℕ) → Type 0
-EndsTold end line heard result after = MatchResult result
-    (λ answer. (answer ≡ end) × Appends heard after line) (λ e. BreaksLine (λ out. out ≡ line) heard after e)
+EndsTold end line heard (Ok answer) after = (answer ≡ end) × Appends heard after line
+EndsTold end line heard (Err e) after = TextFails line heard e after
 
 -- the error output for how far the sections were split
 abbrev pub TellsSplit : Result (Ended PartFault) ToolError → Option (List ℕ) → Result SplitEnd ToolError

@@ -1,12 +1,12 @@
 -- The steps of `filter`.
-use Rattle.std.specs.Prelude.{◌≡◌, ◌==◌, ℕ, List, [], ◌∷◌, length, Bool, false, if◌then◌else◌, Option, Some, Result, Ok, Err, MatchResult, flat_map}
+use Rattle.std.specs.Prelude.{◌≡◌, ◌==◌, ℕ, List, [], length, Bool, false, if◌then◌else◌, Option, Some, Result, Ok, Err, MatchResult, flat_map}
 use Rattle.std.specs.Io.KnownBytes.{Appends}
 use Rattle.dagcbor_heads.specs.Reading.{Reading}
 use Rattle.ipld_tree.specs.Cid.{CidParts}
 use Rattle.dagcbor_items.specs.Walks.{forms}
 use Rattle.files_car.specs.Car.{Section, header_bytes, section_bytes}
 use Rattle.files_car.specs.Sources.{TakesStart}
-use Rattle.program_parts.specs.Lines.{missing_line, BreaksLine, SaysLines}
+use Rattle.program_parts.specs.Lines.{missing_line, TextFails, SaysLines}
 use Rattle.program_parts.specs.declared.take.Ended.{Ended}
 use Rattle.program_parts.specs.declared.take.Ended.TheVariants as ended
 use Rattle.program_sections.specs.Kept.{keeps, note, roots_of, missing_of}
@@ -47,7 +47,7 @@ abbrev pub Filters : Section → Work → Result (Unit {0}) ToolError → Work �
 Filters s old result new = (new.through ≡ old.through) × (new.kept ≡ old.kept) × MatchResult result
     (λ _. Appends old.written new.written (sent_of old.kept s)
     × (new.found ≡ found_with old.kept old.found s))
-    (λ e. BreaksLine (λ out. out ≡ sent_of old.kept s) old.written new.written e)
+    (λ e. TextFails (sent_of old.kept s) old.written e new.written)
 
 -- the error output after the sections, if these names were found
 abbrev pub TellsRest : Kept → List CidParts → Result (Ended ToolError) ToolError → Option (List ℕ)

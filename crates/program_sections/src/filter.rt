@@ -7,7 +7,8 @@ ghost use Rattle.files_car.specs.Car.{header_bytes};
 ghost use Rattle.program_parts.specs.declared.take.Ended.TheVariants.{Whole};
 ghost use Rattle.program_sections.specs.Kept.{roots_of};
 ghost use Rattle.program_sections.specs.declared.kept.Kept.TheVariants.{Named};
-ghost use Rattle.program_sections.specs.Sending.{SendsText, SaysSent};
+ghost use Rattle.program_parts.specs.Lines.{SaysText};
+ghost use Rattle.program_sections.specs.Sending.{SaysSent};
 ghost use Rattle.program_sections.specs.Filtering.{IsFiltered, IsFilteredFront};
 ghost use Rattle.program_sections.specs.Lists.{IsFilteredByList, IsFilteredByListFront};
 ghost use Rattle.program_sections.specs.Steps.{filtering_work, Filters, TellsRest, following, run};
@@ -139,7 +140,7 @@ fn send_roots<W: Write>(
     roots: &[Cid],
     output: &mut W,
 ) -> Result<(), ToolError>
-    ensures { SendsText
+    ensures { SaysText
         (header_bytes (forms (roots_of filter.now.roots.items filter.now.kept roots.now)))
         (W.contents output.old) result (W.contents output.new) }
 {

@@ -6,7 +6,8 @@ ghost use Rattle.dagcbor_items.specs.Walks.{forms};
 ghost use Rattle.files_car.specs.Car.{header_bytes};
 ghost use Rattle.ipld_links.specs.Held.{HoldsNone};
 ghost use Rattle.ipld_links.specs.Verdicts.{IsVerified};
-ghost use Rattle.program_sections.specs.Sending.{SendsText, SaysSent};
+ghost use Rattle.program_parts.specs.Lines.{SaysText};
+ghost use Rattle.program_sections.specs.Sending.{SaysSent};
 ghost use Rattle.program_sections.specs.Merging.{file_line, IsMergedOf, IsMergedFront};
 ghost use Rattle.program_sections.specs.MergeSteps.{merging_work, Merges, HoldsIt, AddsRoots, place_of};
 ghost use Rattle.program_sections.specs.MergeSteps.{MergesFile, MergesFiles, AreLeft, BeginsAll};
@@ -255,7 +256,7 @@ fn send_roots<W: Write>(
     roots: &[Cid],
     output: &mut W,
 ) -> Result<(), ToolError>
-    ensures { SendsText (header_bytes (forms (given_or given.now roots.now))) (W.contents output.old)
+    ensures { SaysText (header_bytes (forms (given_or given.now roots.now))) (W.contents output.old)
         result (W.contents output.new) }
 {
     if given.is_empty() {

@@ -2,7 +2,7 @@
 
 ghost use Rattle.dagcbor_items.specs.Walks.{forms};
 ghost use Rattle.files_car.specs.Car.{header_bytes, section_bytes};
-ghost use Rattle.program_sections.specs.Sending.{SendsText};
+ghost use Rattle.program_parts.specs.Lines.{SaysText};
 
 use dagcbor_core::EncodeError;
 use dagcbor_heads::IoRefWriter;
@@ -18,7 +18,7 @@ pub(crate) fn send_header<W: Write>(
     roots: &[Cid],
     output: &mut W,
 ) -> Result<(), ToolError>
-    ensures { SendsText (header_bytes (forms roots.now)) (W.contents output.old) result
+    ensures { SaysText (header_bytes (forms roots.now)) (W.contents output.old) result
         (W.contents output.new) }
 {
     let mut writer = IoRefWriter::new(output);
@@ -36,7 +36,7 @@ pub(crate) fn send_header<W: Write>(
 
 /// Writes the section.
 pub(crate) fn send_section<W: Write>(section: &Section<'_>, output: &mut W) -> Result<(), ToolError>
-    ensures { SendsText (section_bytes (section.now.cid, section.now.block.now))
+    ensures { SaysText (section_bytes (section.now.cid, section.now.block.now))
         (W.contents output.old) result (W.contents output.new) }
 {
     let mut writer = IoRefWriter::new(output);

@@ -7,8 +7,8 @@ use Rattle.std.proofs.KnownBytes.{Consumes-trans}
 use Rattle.std.specs.Io.{StopsAt, appended_bytes}
 use Rattle.std.specs.Io.KnownBytes.{Consumes, IsAtEnd}
 use Rattle.std.specs.Io.BufRead.{take_through, drop_through, DropsThrough}
-use Rattle.program_serve.specs.Requests.{AsksFor, wanted, IsLineOf, IsRequest}
-use Rattle.program_serve.specs.Serving.{IsSpent, IsCut, Pauses, Hears, IsReadTo, HearsAsked}
+use Rattle.program_serve.specs.Requests.{AsksFor}
+use Rattle.program_serve.specs.Serving.{IsSpent, Pauses, Hears, IsReadTo, HearsAsked}
 use Rattle.program_serve.specs.declared.asked.Request.{Request}
 use Rattle.program_serve.specs.declared.asked.Asked.{Asked}
 use Rattle.program_serve.specs.declared.asked.Asked.TheVariants as asks

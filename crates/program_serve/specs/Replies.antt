@@ -1,5 +1,5 @@
 -- The texts of replies.
-use Rattle.std.specs.Prelude.{ℕ, List, [], ◌∷◌, ◌++◌, ◌==◌, ◌&&◌, if◌then◌else◌, length, codes, decimal, flat_map, is_ok, Bool, true, false, Result, Ok, Err}
+use Rattle.std.specs.Prelude.{ℕ, List, [], ◌++◌, ◌==◌, ◌&&◌, if◌then◌else◌, length, codes, decimal, flat_map, is_ok, Bool, true, Result, Ok, Err}
 use Rattle.text_cid.specs.Texts.{cid_text}
 use Rattle.program_parts.specs.Lines.{line}
 use Rattle.program_dagstore.specs.Changes.{cid_line}

@@ -8,7 +8,7 @@ ghost use Rattle.dagcbor_core.specs.Steps.{default_steps};
 ghost use Rattle.dagcbor_heads.specs.Reading.{fresh_reading};
 ghost use Rattle.store_on_disk.specs.Ends.{Quiet};
 ghost use Rattle.store_on_disk.specs.Stored.{IsKeptBy};
-ghost use Rattle.program_dagstore.specs.Changes.{SaysText};
+ghost use Rattle.program_parts.specs.Lines.{SaysText};
 ghost use Rattle.program_dagstore.specs.Files.{Imports};
 ghost use Rattle.program_dagstore.specs.Roots.{ExportsMeant};
 ghost use Rattle.program_dagstore.specs.declared.fault.Fault.{Fault};

@@ -1,5 +1,5 @@
 -- What a store leaves, an open may take.
-use Rattle.std.proofs.Common.{◌≡◌, ◌⊎◌, ℕ, ◌+◌, ◌*◌, ◌%◌, ◌<◌, ◌≤◌, List, [], ◌∷◌, Some, Option, length, ◌==◌, Bool, true, false, not, ◌&&◌, if◌then◌else◌, true≢false, refl, sym, ap, ap₂, ◌∙◌, subst, subst₂, add-zero, codes, eqb-true, ne_eqb, inl, inr, arith}
+use Rattle.std.proofs.Common.{◌≡◌, ℕ, ◌+◌, ◌*◌, ◌%◌, ◌≤◌, List, [], ◌∷◌, Some, ◌==◌, Bool, true, false, not, ◌&&◌, if◌then◌else◌, true≢false, refl, sym, ap, ◌∙◌, subst, subst₂, add-zero, codes, eqb-true, ne_eqb, inl, inr, arith}
 use Rattle.std.proofs.lemmas.Bool.{cases_eq, cases_Bool, and_parts}
 use Rattle.std.specs.List.{list_any, list_all}
 use Rattle.std.proofs.Math.Logic.{∥∥₁_elim, ∥∥₁_map, ∥∥₁_prop}
@@ -7,7 +7,6 @@ use Rattle.std.proofs.Math.Nat.{ℕ_set}
 use Rattle.sqlite_disk.specs.declared.Disk.{Ghosts}
 use Rattle.sqlite_value.specs.Order.{Row, column}
 use Rattle.sqlite_value.proofs.OrderLemmas.{value_cmp-Text}
-use Rattle.sqlite_trees.specs.Tree.{Trees}
 use Rattle.sqlite_trees.specs.Sound.{is_virtual, begins, same_name}
 use Rattle.sqlite_trees.specs.Objects.{catalog_tree}
 use Rattle.sqlite_trees.specs.declared.store.Shape.TheVariants.{Table}
@@ -30,13 +29,13 @@ use Rattle.sqlite_pool.proofs.ProbeLemmas.{size_by_log, size_by_file, reserved_w
 use Rattle.sqlite_store.specs.declared.catalog.Wanted.{Wanted}
 use Rattle.sqlite_store.specs.Catalog.{may_stand, describes, is_about, is_near, has_no_pages}
 use Rattle.sqlite_store.specs.Db.{rows_at, IsFile}
-use Rattle.sqlite_store.specs.Listing.{listed_from, file_trees}
+use Rattle.sqlite_store.specs.Listing.{listed_from}
 use Rattle.sqlite_store.specs.Listed.{catalog_rows}
 use Rattle.sqlite_store.specs.declared.store.FileStore.{FileStore}
 use Rattle.sqlite_store.specs.FileStore.{state, files, schema_in, reading, recovers}
 use Rattle.sqlite_store.proofs.FileLemmas.{every_image}
 use Rattle.sqlite_store.specs.declared.store.open.Unopened.{Unopened}
-use Rattle.sqlite_store.specs.Unopened.{state_of, image, Opens, IsAsBefore}
+use Rattle.sqlite_store.specs.Unopened.{state_of, image, IsAsBefore}
 use Rattle.store_rows.specs.Rows.{name_tree, IsKeyed}
 use Rattle.store_rows.specs.RootRows.{root_tree}
 use Rattle.store_on_disk.specs.Stored.{AreAllRoots}

@@ -1,7 +1,7 @@
 -- That a call leaves a store, whenever a crash cuts it off.
 use Rattle.std.proofs.Common.{arith, ◌≡◌, ◌⊎◌, inl, inr, false, sym, ap, ◌∙◌, subst, IsTrue}
 use Rattle.sqlite_trees.specs.Tree.{Trees}
-use Rattle.sqlite_trees.specs.View.{View, IsClean, IsRolledBack}
+use Rattle.sqlite_trees.specs.View.{IsClean, IsRolledBack}
 use Rattle.sqlite_trees.specs.Objects.{catalog_tree, version_tree}
 use Rattle.sqlite_trees.specs.declared.store.Store.{Ghosts}
 use Rattle.store_rows.specs.Ends.{Quiet}

@@ -1,5 +1,5 @@
 -- A file that lists its trees as those of a store is a file of a store's schema.
-use Rattle.std.proofs.Common.{◌≡◌, ◌⊎◌, ℕ, zero, suc, ◌+◌, ◌<◌, ◌≤◌, pos, List, [], ◌∷◌, ◌++◌, length, ◌==◌, map, count_by, Bool, true, false, not, ◌&&◌, ◌||◌, nat_le, slice_index, slice_index_or, if◌then◌else◌, refl, sym, ap, ap₂, ◌∙◌, subst, subst₂, true≢false, arith, inl, inr}
+use Rattle.std.proofs.Common.{◌≡◌, ℕ, zero, suc, ◌+◌, ◌<◌, ◌≤◌, pos, List, [], ◌∷◌, ◌++◌, length, ◌==◌, count_by, Bool, true, false, not, ◌&&◌, ◌||◌, nat_le, slice_index, if◌then◌else◌, refl, sym, ap, ◌∙◌, subst, true≢false, arith}
 use mathlib.Core.Path.{fun_ext}
 use Rattle.std.specs.List.{list_any, list_all, AllByRecursion}
 use Rattle.std.proofs.lemmas.Bool.{and_from, and_parts}
@@ -13,7 +13,7 @@ use Rattle.sqlite_trees.specs.Listing.{same_code}
 use Rattle.sqlite_pages.specs.PageMap.{PageMap}
 use Rattle.sqlite_pool.specs.File.{in_use}
 use Rattle.sqlite_store.specs.declared.catalog.Wanted.{Wanted}
-use Rattle.sqlite_store.specs.Db.{rows_at, roots_of, trees_in, thawed, shown, slot_shape, slot_root, IsKept, AreTrees, IsDb, IsFile}
+use Rattle.sqlite_store.specs.Db.{rows_at, roots_of, trees_in, slot_shape, slot_root, IsKept, IsDb, IsFile}
 use Rattle.sqlite_store.specs.Catalog.{is_present, is_about, is_near, describes, root_in, roots_in, may_stand, is_listed_once, fits_shape, shape_at, reals_at, is_well_formed, has_no_pages, MayAllStand}
 use Rattle.sqlite_store.specs.Listing.{listed, listed_from, all_trees, file_trees}
 

@@ -1,5 +1,5 @@
 -- The names that are removed, one by one, in their order.
-use Rattle.std.proofs.Common.{◌≡◌, inl, inr, ℕ, ◌+◌, ◌≤◌, ℤ, List, [], ◌∷◌, ◌++◌, length-append, Bool, true, false, Less, Equal, refl, sym, ap, ◌∙◌, subst, arith, IsTrue, ◌⊎◌, ◌↔◌, Option, None, Some, is_some}
+use Rattle.std.proofs.Common.{◌≡◌, inl, inr, ℕ, ◌+◌, ◌≤◌, ℤ, List, [], ◌∷◌, ◌++◌, length-append, Bool, true, false, Less, Equal, refl, sym, ap, ◌∙◌, subst, arith, IsTrue, ◌⊎◌, ◌↔◌, Option, None, Some}
 use Rattle.std.proofs.Math.Decide.{ℕ_discrete}
 use Rattle.std.proofs.Math.Nat.{add-zero}
 use Rattle.std.proofs.lemmas.Cmp.{nat_list_cmp_total, tied_itself}
@@ -13,7 +13,7 @@ use Rattle.sqlite_trees.specs.declared.store.Store.{Ghosts}
 use Rattle.ipld_tree.specs.Cid.{CidParts, cid_bytes}
 use Rattle.ipld_tree.proofs.Cids.{cid_unique}
 use Rattle.ipld_links.specs.Sets.{Among}
-use Rattle.ipld_links.specs.Reaching.{Stored, IsThere, NoneTwice}
+use Rattle.ipld_links.specs.Reaching.{Stored, NoneTwice}
 use Rattle.ipld_links.proofs.Members.{among_push, push_among}
 use Rattle.store_rows.specs.Ends.{Quiet, KeepsOthers, IsOfBlocks}
 use Rattle.store_rows.specs.Rows.{block_tree, name_tree, block_row, name_entry, name_cmp, IsStored, IsListed}

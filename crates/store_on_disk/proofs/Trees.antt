@@ -11,15 +11,13 @@ use Rattle.ipld_tree.specs.Cid.{CidParts, cid_bytes}
 use Rattle.ipld_links.specs.Names.{IsInline}
 use Rattle.files_car.specs.Car.{Section, header_bytes, section_bytes, car_bytes, IsHeader, IsSection}
 use Rattle.ipld_links.specs.Sets.{Among}
-use Rattle.ipld_links.specs.Reaching.{Stored, IsThere, IsLost, LeadsFar, ListsReachable, ListsLost, IsWalkOver, WalksAt}
+use Rattle.ipld_links.specs.Reaching.{Stored, IsThere, IsLost, ListsReachable}
 use Rattle.files_car.specs.Reached.{sections_at}
 use Rattle.ipld_links.specs.declared.reach.Reached.{Reached}
-use Rattle.ipld_links.specs.declared.reach.Walk.{Walk}
-use Rattle.ipld_links.proofs.Members.{push_among}
 use Rattle.ipld_links.proofs.Reaching.{none_found}
 use Rattle.files_car.proofs.Writing.{sections_left}
 use Rattle.store_rows.specs.Rows.{name_tree, IsStored, IsListed}
-use Rattle.store_on_disk.specs.Stored.{IsNamedBy, HoldsOnly, GetsSome, ListsName, IsDamaged, IsSame, FindsSo, GetRefused}
+use Rattle.store_on_disk.specs.Stored.{IsNamedBy, HoldsOnly, GetsSome, ListsName, IsSame, FindsSo}
 use Rattle.store_on_disk.specs.Walking.{AreAllNamed, HeaderUnwritten}
 use Rattle.store_on_disk.specs.Trees.{ShowsStored, OfStored, Reaches, ReachRefused, AreFirstReached, WritesTree, TreeRefused, AreFirstAt, NamedRefused, NamesRefused, NamedUnwritten, WritesNames, NamesUnwritten}
 use Rattle.store_on_disk.specs.declared.error.StoreRefusal.{StoreRefusal}

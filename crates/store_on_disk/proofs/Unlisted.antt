@@ -1,5 +1,5 @@
 -- The links that lead to no block of a store.
-use Rattle.std.proofs.Common.{◌≡◌, ◌⊎◌, inl, inr, ℕ, zero, suc, ◌+◌, ◌<◌, ◌≤◌, List, [], ◌∷◌, ◌++◌, length, get_or, take, Bool, true, false, cond, refl, sym, ap, ◌∙◌, subst, arith, add-one, IsTrue, true≢false, ◌↔◌, Option, None, Vec, Result, Ok, Err, OnOk, Global, BTreeSet, take-suc}
+use Rattle.std.proofs.Common.{◌≡◌, ◌⊎◌, inl, inr, ℕ, zero, suc, ◌+◌, ◌<◌, ◌≤◌, List, [], ◌∷◌, ◌++◌, length, get_or, take, Bool, true, false, cond, refl, sym, ap, ◌∙◌, subst, arith, add-one, ◌↔◌, Option, None, Vec, Result, Ok, Err, OnOk, Global, BTreeSet, take-suc}
 use Rattle.std.specs.List.Sorted.{IsStrictlySortedBy}
 use Rattle.std.specs.BTreeMap.{is_at}
 use Rattle.std.specs.BTreeSet as set
@@ -18,7 +18,7 @@ use Rattle.ipld_links.proofs.Within.{reached_cid, not_inline}
 use Rattle.ipld_links.proofs.Members.{at_same, same_at, any_among, among_any, among_push, push_among, among_map, map_among}
 use Rattle.sqlite_trees.specs.Tree.{Trees}
 use Rattle.store_rows.specs.Rows.{name_tree, IsListed}
-use Rattle.store_on_disk.specs.Stored.{ListsName, IsNext, GivesNextName, HoldsOnly, IsSame}
+use Rattle.store_on_disk.specs.Stored.{ListsName, GivesNextName, IsSame}
 use Rattle.store_on_disk.specs.Walking.{AreBlocks}
 use Rattle.store_on_disk.specs.Lost.{IsLinked, NamesNoneListed, ListsLostLinks, AddsUnlisted, AddsNames, AddsLost, AddsOf, GrowsByLost, IsReachedIn}
 use Rattle.store_on_disk.proofs.Walking.{IsWalked, all_blocks}

@@ -4,7 +4,7 @@ use Rattle.std.specs.List.Sorted.{IsStrictlySortedBy}
 use Rattle.std.specs.Map.{keys_of}
 use Rattle.std.proofs.lemmas.Result.{on_ok_weaker}
 use Rattle.serde.specs.Event as event
-use Rattle.serde.specs.Event.{Event, Log, Logs, seq_begins, seq_ends, map_begins, map_ends, field_key, key_begins, key_ends, flattens, octets, Sends, Then, WritesEach, WritesSeq, WritesEntry, WritesMap}
+use Rattle.serde.specs.Event.{Event, Log, Logs, seq_begins, seq_ends, map_begins, map_ends, field_key, key_begins, key_ends, flattens, octets, WritesEach, WritesSeq, WritesEntry, WritesMap}
 use Rattle.serde.specs.declared.name.Case.TheVariants.{Kebab}
 use Rattle.ipld_tree.specs.Tree.{Tree, null, boolean, integer, text, bytes, list, mapping, link, items_of, ordered_entries, entries_tree}
 use Rattle.ipld_tree.specs.Cid.{CidParts, cid_bytes}

@@ -3,7 +3,7 @@ use Rattle.std.specs.declared.cmp.Ordering.TheVariants.{Less, Equal, Greater}
 use Rattle.atproto_mst.specs.Entries.{entries}
 use Rattle.atproto_mst.specs.Changes.{changes, AreChanges}
 use Rattle.atproto_mst.specs.Merging.{removed, added}
-use Rattle.atproto_mst.proofs.Merging.{diff_of, order_of, merged_less, merged_equal, merged_greater, merged_end, others_less, others_greater, other_records, same_after, both_end, rest_all, none_left, are_changes}
+use Rattle.atproto_mst.proofs.Merging.{diff_of, order_of, merged_less, merged_equal, merged_greater, merged_end, others_less, others_greater, same_after, rest_all, none_left, are_changes}
 use Rattle.atproto_mst.proofs.Refusals.{err_so}
 use Rattle.atproto_mst.proofs.diffs.diff_entries.Goals as goal
 use Rattle.atproto_mst.proofs.diffs.diff_entries.Goals.{then-loop-i-test+else-j-new, else-loop-i-test}

@@ -1,5 +1,5 @@
-use Rattle.std.proofs.Common.{rules, arith, refl, length, ◌<◌}
-use Rattle.files_car.proofs.Holding.{stored_nothing, none_taken, one_taken, all_taken, stopped, fault_stops, section_shorter}
+use Rattle.std.proofs.Common.{rules, length, ◌<◌}
+use Rattle.files_car.proofs.Holding.{stored_nothing, none_taken, one_taken, stopped, fault_stops}
 use Rattle.files_car.proofs.blocks.section_blocks.Goals as goal
 
 pub loop-rest-init : goal.loop-rest-init

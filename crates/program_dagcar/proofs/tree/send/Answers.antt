@@ -3,7 +3,7 @@ use Rattle.ipld_tree.specs.Cid.{cid_bytes}
 use Rattle.files_car.specs.Car.{car_bytes}
 use Rattle.ipld_links.specs.Reaching.{stored_in}
 use Rattle.files_car.specs.Reached.{sections_at}
-use Rattle.program_dagcar.proofs.Finding.{front_sent}
+use Rattle.program_parts.proofs.Saying.{front_sent}
 use Rattle.program_dagcar.proofs.tree.send.Goals as goal
 
 pub returns-in-Write : goal.returns-in-Write

@@ -5,7 +5,7 @@ use Rattle.std.proofs.lemmas.Result.{err_from_is_err_and}
 use Rattle.program_shared.specs.declared.fault.ToolError.TheVariants.{OutOfMemory}
 use Rattle.program_parts.specs.Lines.{missing_line}
 use Rattle.program_dagstore.specs.Checks.{IsCheckedLine}
-use Rattle.program_dagstore.proofs.Sending.{line_is}
+use Rattle.program_parts.proofs.Saying.{text_breaks}
 use Rattle.program_dagstore.proofs.Telling.{nothing_after}
 use Rattle.program_dagstore.proofs.Missing.{lists_missing}
 use Rattle.program_dagstore.proofs.check.check_blocks.Goals as goal
@@ -26,7 +26,7 @@ returns-in_err-none_missing-clause-says g c =
       s.keys,
       c.in_ok-all_sound.ensures.says,
       (λ clean. lists_missing v s c.in_ok-said.ensures.0 (c.in_ok-all_sound.ensures.missing clean)),
-      line_is (λ text. text ≡ flat_map missing_line s.keys) c.in_ok-said.said.0.items _ _ c.in_err-none_missing.field-0.0 c.in_ok-said.ensures.1 c.in_err-none_missing.ensures,
+      text_breaks (λ text. text ≡ flat_map missing_line s.keys) c.in_ok-said.said.0.items _ _ c.in_err-none_missing.field-0.0 c.in_ok-said.ensures.1 c.in_err-none_missing.ensures,
     ))
 
 pub returns-clause-says : goal.returns-clause-says

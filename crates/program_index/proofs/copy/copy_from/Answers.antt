@@ -1,4 +1,4 @@
-use Rattle.std.proofs.Common.{arith, rules}
+use Rattle.std.proofs.Common.{arith}
 use Rattle.program_index.proofs.Copying.{copied_more, copied_stopped, copied_all}
 use Rattle.program_shared.specs.declared.fault.ToolError.{ToolError}
 use Rattle.program_index.proofs.copy.copy_from.Goals as goal

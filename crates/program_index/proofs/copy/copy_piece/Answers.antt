@@ -1,4 +1,4 @@
-use Rattle.std.proofs.Common.{◌≡◌, List, ℕ, sym, ap, ◌∙◌, subst, take, drop, length, rules}
+use Rattle.std.proofs.Common.{◌≡◌, List, ℕ, ap, ◌∙◌, subst, take, drop, length, rules}
 use Rattle.std.proofs.lemmas.Bool.{MatchBool-at_true}
 use Rattle.program_shared.specs.Writing.{WritesFront}
 use Rattle.program_parts.proofs.Known.{if_some}

@@ -1,4 +1,4 @@
-use Rattle.std.proofs.Common.{None, Some, arith, rules, ◌≤◌, ◌+◌, ◌-◌, ◌^◌, min}
+use Rattle.std.proofs.Common.{None, Some, arith, ◌≤◌, ◌+◌, ◌-◌, ◌^◌, min}
 use Rattle.files_index.specs.Lookup.{FindsFirst, FindsOffset}
 use Rattle.program_index.proofs.Finding.{two_known, three_known, four_known, found_of, no_entry, passed_on, all_passed}
 use Rattle.program_index.proofs.find.block_in.Goals as goal

@@ -1,4 +1,4 @@
-use Rattle.std.proofs.Common.{◌<◌, ◌≤◌, ◌^◌, length, IfSome}
+use Rattle.std.proofs.Common.{◌<◌, ◌^◌, length, IfSome}
 use Rattle.program_index.proofs.Finding.{NotPassed}
 use Rattle.program_index.proofs.find.block_in.Given as goal
 

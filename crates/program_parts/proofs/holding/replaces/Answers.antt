@@ -1,4 +1,4 @@
-use Rattle.std.proofs.Common.{◌≡◌, inl, ap, sym, ◌∙◌, true, Some, option_map, rules}
+use Rattle.std.proofs.Common.{◌≡◌, inl, ap, ◌∙◌, true, Some, option_map, rules}
 use Rattle.std.specs.Str.{bytes_eq}
 use Rattle.std.proofs.lemmas.Slice.Eq.{bytes_eq-Decides}
 use Rattle.program_parts.proofs.holding.replaces.Goals as goal

@@ -1,4 +1,4 @@
-use Rattle.std.proofs.Common.{false, inl, inr, refl, sym, ◌∙◌, subst, rules}
+use Rattle.std.proofs.Common.{false, inl, inr, refl, sym, ◌∙◌, subst}
 use Rattle.program_parts.proofs.Known.{if_known, if_some}
 use Rattle.program_sections.specs.Filtering.{IsFiltered, IsFilteredFront}
 use Rattle.program_sections.specs.Lists.{IsFilteredByList, IsFilteredByListFront, ListsNames, TellsWrongLine}

@@ -1,7 +1,5 @@
 use Rattle.std.proofs.Common.{◌∙◌}
 use Rattle.dagcbor_heads.specs.Inputs.{input_reading}
-use Rattle.program_sections.specs.declared.merge.Following.{Following}
-use Rattle.program_sections.specs.declared.merge.Begun.{Begun}
 use Rattle.program_sections.proofs.Merging.{begun_one, refuses_start}
 use Rattle.program_sections.proofs.merge.begin.Goals as goal
 

@@ -1,4 +1,4 @@
-use Rattle.std.proofs.Common.{rules, arith, ap, length, map, None, Ok, subst, ◌+◌}
+use Rattle.std.proofs.Common.{rules, arith, ap, length, map, Ok, subst, ◌+◌}
 use Rattle.std.specs.Vec.Iter.{into_iter_items}
 use Rattle.dagcbor_heads.specs.Inputs.{input_reading}
 use Rattle.program_sections.specs.MergeSteps.{BeginsOne}

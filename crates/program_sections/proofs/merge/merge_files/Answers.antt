@@ -1,4 +1,4 @@
-use Rattle.std.proofs.Common.{rules, arith, ap, length, map, None, Ok, subst, ◌∙◌, refl}
+use Rattle.std.proofs.Common.{rules, arith, ap, length, map, Ok, subst}
 use Rattle.std.specs.Vec.Iter.{into_iter_items}
 use Rattle.program_sections.specs.MergeSteps.{merging_work, place_of, MergesFile}
 use Rattle.program_sections.proofs.Merging.{so_far_more, so_far_broke, so_far_told, so_far_all, none_told, nil_of}

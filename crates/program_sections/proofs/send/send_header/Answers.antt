@@ -1,7 +1,7 @@
 use Rattle.std.proofs.Common.{rules}
 use Rattle.dagcbor_items.specs.Walks.{forms}
 use Rattle.files_car.specs.Car.{header_bytes}
-use Rattle.program_sections.proofs.Sending.{front_sent}
+use Rattle.program_parts.proofs.Saying.{front_sent}
 use Rattle.program_sections.proofs.send.send_header.Goals as goal
 
 pub returns-in-Write : goal.returns-in-Write

@@ -1,4 +1,4 @@
-use Rattle.std.proofs.Common.{rules, ◌≡◌, sym, ap, ◌∙◌, subst}
+use Rattle.std.proofs.Common.{rules, ◌≡◌, ap, ◌∙◌, subst}
 use Rattle.dagcbor_heads.specs.Inputs.{input_reading}
 use Rattle.dagcbor_items.specs.Walks.{forms}
 use Rattle.program_parts.proofs.Taking.{ends_same}

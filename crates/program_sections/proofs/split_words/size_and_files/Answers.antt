@@ -1,4 +1,4 @@
-use Rattle.std.proofs.Common.{ℕ, List, [], ◌∷◌, string_bytes, MatchOption, sym, subst}
+use Rattle.std.proofs.Common.{ℕ, List, string_bytes, MatchOption, sym, subst}
 use Rattle.program_sections.specs.SplitWords.{AreSizeAndFiles}
 use Rattle.program_sections.proofs.Wording.{three_words}
 use Rattle.program_sections.proofs.split_words.size_and_files.Goals as goal

@@ -1,4 +1,4 @@
-use Rattle.std.proofs.Common.{arith, inl, refl, sym, ◌∙◌, subst}
+use Rattle.std.proofs.Common.{arith, inl, sym, ◌∙◌, subst}
 use Rattle.std.proofs.lemmas.Result.{err_from_is_err_and}
 use Rattle.sqlite_trees.specs.View.{IsClean}
 use Rattle.ipld_links.specs.Blocks.{IsBlockOf}

@@ -1,5 +1,3 @@
-use Rattle.std.proofs.Common.{subst}
-use Rattle.store_on_disk.specs.Trees.{AtMetBeside}
 use Rattle.store_on_disk.proofs.Marking.{reached_all, met_reached}
 use Rattle.store_on_disk.proofs.store.BlockStore.reach.Goals as goal
 

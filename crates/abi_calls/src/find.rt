@@ -1,7 +1,6 @@
 //! What a path leads to in a block.
 
-ghost use Rattle.std.specs.Prelude.{◌≡◌, [], ◌∷◌, length, IfOk, IfSome};
-ghost use Rattle.ipld_paths.specs.Paths.{segments};
+ghost use Rattle.std.specs.Prelude.{IfOk, IfSome};
 ghost use Rattle.ipld_paths.specs.Parts.{EndsWith};
 ghost use Rattle.ipld_paths.specs.Finding.{StandAt, StopsInBlock};
 ghost use Rattle.abi_calls.specs.Finds.{TellsFound, IsFindAnswer, IsPartAnswer};

@@ -1,6 +1,6 @@
 //! The links of an item, packed: for each, a byte with its CID's length, and the CID.
 
-ghost use Rattle.std.specs.Prelude.{◌≡◌, ◌∷◌, [], List, ℕ};
+ghost use Rattle.std.specs.Prelude.{◌≡◌, [], List, ℕ};
 ghost use Rattle.ipld_tree.specs.Cid.{cid_bytes};
 ghost use Rattle.dagcbor_decode.specs.Rows.{HoldsLinks};
 ghost use Rattle.dag_pb.specs.Node.{Field, BeginsWithFields};

@@ -2,7 +2,7 @@
 
 ghost use Rattle.std.specs.Prelude.{◌≡◌, ◌≤◌, Some, List, ℕ};
 ghost use Rattle.abi_calls.specs.Told.{payload_at, string_told, link_told, token_bytes};
-ghost use Rattle.abi_calls.specs.Told.{tape_told, PutsToldAt, HasRoomAt, HasRoomFor};
+ghost use Rattle.abi_calls.specs.Told.{PutsToldAt, HasRoomAt, HasRoomFor};
 ghost use Rattle.abi_calls.specs.Told.{FillsTold};
 ghost use Rattle.abi_calls.specs.Answers.{spell_answer};
 

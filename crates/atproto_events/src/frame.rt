@@ -1,6 +1,6 @@
 //! Frames of com.atproto.sync.subscribeRepos, in sequence.
 
-ghost use Rattle.std.specs.Prelude.{◌≡◌, ◌++◌, IfErr, IfOk, MatchOption, MatchResult, ℕ, List};
+ghost use Rattle.std.specs.Prelude.{◌≡◌, ◌++◌, IfErr, IfOk, MatchOption, MatchResult};
 ghost use Rattle.dagcbor_items.specs.Skips.{EndByHeads};
 ghost use Rattle.atproto_events.specs.Frames.{IsHeader, SplitsFrame, IsFrameOf, IsFrame, HasNoItem, HasNoEnd};
 ghost use Rattle.atproto_events.specs.Frames.{HeaderRefused, PartsRefused, FrameRefused, BeginsNoFrameFor};

@@ -2,7 +2,6 @@
 
 ghost use Rattle.std.specs.Prelude.{◌≡◌, map, IfOk, MatchBool, MatchResult};
 ghost use Rattle.std.specs.List.{AllByRecursion};
-ghost use Rattle.std.specs.Option.{option_flatten};
 ghost use Rattle.atproto_mst.specs.Changes.{change_of, changes};
 ghost use Rattle.atproto_events.specs.Operations.{record_before, HasForm, change_of_op, ChangesRefused};
 

@@ -1,6 +1,6 @@
 //! Computing the root of the tree that pieces make.
 
-ghost use Rattle.std.specs.Prelude.{◌≡◌, ◌≢◌, ◌≤◌, [], ◌∷◌, suc, List, length, map, IfOk, IfErr};
+ghost use Rattle.std.specs.Prelude.{◌≡◌, ◌≢◌, ◌≤◌, [], ◌∷◌, suc, length, map, IfOk, IfErr};
 ghost use Rattle.std.specs.Prelude.{MatchOption};
 ghost use Rattle.ipld_tree.specs.Cid.{CidParts};
 ghost use Rattle.ipld_tree.specs.Tree.{Tree};

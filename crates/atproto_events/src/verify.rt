@@ -1,7 +1,6 @@
 //! Verifying a commit event.
 
-ghost use Rattle.std.specs.Prelude.{◌≡◌, ◌≢◌, IfErr, IfOk, MatchBool, MatchResult, map, string_bytes, ⊤, List};
-ghost use Rattle.std.specs.Option.{option_flatten};
+ghost use Rattle.std.specs.Prelude.{◌≡◌, ◌≢◌, IfErr, IfOk, MatchBool, MatchResult, string_bytes};
 ghost use Rattle.ipld_links.specs.Reaching.{stored_in};
 ghost use Rattle.atproto_mst.specs.Changes.{changes};
 ghost use Rattle.atproto_events.specs.Doing.{LeadsFrom};

@@ -1,6 +1,6 @@
 //! Builds the nodes of a tree from its leaves.
 
-ghost use Rattle.std.specs.Prelude.{◌≡◌, [], ◌∷◌, map, Some, IfOk, OnOk, IfErr, MatchResult};
+ghost use Rattle.std.specs.Prelude.{◌≡◌, [], ◌∷◌, map, Some, IfOk, OnOk, IfErr};
 ghost use Rattle.ipld_tree.specs.Spelling.{spelling};
 ghost use Rattle.ipld_links.specs.Names.{block_name};
 ghost use Rattle.atproto_mst.specs.Trees.{lower_run, entry_tree, entry_trees, node_section};

@@ -1,6 +1,6 @@
 //! Entries, and the layers of their keys.
 
-ghost use Rattle.std.specs.Prelude.{◌≡◌, MatchResult, IfOk, ◌≤◌};
+ghost use Rattle.std.specs.Prelude.{◌≡◌, MatchResult, IfOk};
 ghost use Rattle.atproto_mst.specs.Keys.{HaveKeys, HaveCids, Rise, AreMstEntries};
 ghost use Rattle.atproto_mst.specs.Trees.{leaves, top_layer};
 ghost use Rattle.atproto_mst.specs.Placed.{all_told};

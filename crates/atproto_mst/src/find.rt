@@ -1,6 +1,6 @@
 //! Finding one record of a stored tree.
 
-ghost use Rattle.std.specs.Prelude.{◌≡◌, ◌⊎◌, [], List, MatchResult, IfOk, IfErr};
+ghost use Rattle.std.specs.Prelude.{◌≡◌, ◌⊎◌, List, MatchResult, IfOk, IfErr};
 ghost use Rattle.ipld_links.specs.Reaching.{stored_in};
 ghost use Rattle.atproto_mst.specs.Keys.{Entry};
 ghost use Rattle.atproto_mst.specs.Entries.{IsMst};

@@ -1,6 +1,6 @@
 //! Receivers of a tree's nodes.
 
-ghost use Rattle.std.specs.Prelude.{◌≡◌, [], ◌∷◌, List, OnOk, IfErr};
+ghost use Rattle.std.specs.Prelude.{[], ◌∷◌, List, OnOk, IfErr};
 ghost use Rattle.files_car.specs.Car.{Section};
 ghost use Rattle.atproto_mst.specs.Sinks.{HandsOver, RefusesOne};
 

@@ -4,9 +4,9 @@ ghost use Rattle.std.specs.Prelude.{◌≡◌, ◌⊎◌, [], List, MatchResult,
 ghost use Rattle.ipld_links.specs.Reaching.{stored_in};
 ghost use Rattle.ipld_links.specs.Sets.{members};
 ghost use Rattle.atproto_mst.specs.Keys.{Entry};
-ghost use Rattle.atproto_mst.specs.Entries.{entries, IsMst};
+ghost use Rattle.atproto_mst.specs.Entries.{IsMst};
 ghost use Rattle.atproto_mst.specs.Nodes.{NodeParts, IsNodeAt};
-ghost use Rattle.atproto_mst.specs.Stops.{IsStoredNamed, MstRefused, NodeFault};
+ghost use Rattle.atproto_mst.specs.Stops.{IsStoredNamed, NodeFault};
 ghost use Rattle.atproto_mst.specs.Changes.{changes, AreChanges};
 ghost use Rattle.atproto_mst.specs.Levels.{level_items, link_names, DropsShared, StepsDown};
 ghost use Rattle.atproto_mst.specs.Levels.{IsOfShape, LevelLinksRefused};

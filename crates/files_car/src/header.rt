@@ -1,6 +1,6 @@
 //! The header at the front of a CAR file, with the roots.
 
-ghost use Rattle.std.specs.Prelude.{◌≡◌, ◌↔◌, [], ◌∷◌, map, codes, pos, Some, IsTrue, true};
+ghost use Rattle.std.specs.Prelude.{◌↔◌, [], ◌∷◌, map, codes, pos, Some, IsTrue, true};
 ghost use Rattle.std.specs.Prelude.{◌≢◌, ℕ, List, MatchResult, MatchOption, IfOk, IfErr};
 ghost use Rattle.ipld_tree.specs.Cid.{cid_bytes};
 ghost use Rattle.ipld_tree.specs.Tree.{integer, list, link, items_of, list_tree, entries_tree};

@@ -1,6 +1,6 @@
 //! Reads the sections of a CAR file one by one, from a slice or any reader.
 
-ghost use Rattle.std.specs.Prelude.{◌≡◌, [], Some, true};
+ghost use Rattle.std.specs.Prelude.{[], Some, true};
 ghost use Rattle.dagcbor_heads.specs.Inputs.{input_reading, not_lending};
 ghost use Rattle.dagcbor_core.specs.Steps.{default_steps};
 ghost use Rattle.dagcbor_heads.specs.Reading.{fresh_reading};

@@ -1,7 +1,6 @@
 //! A walk along links, whatever stores the blocks.
 
 ghost use Rattle.std.specs.Prelude.{◌≡◌, [], None, option_map, is_some, IfOk, OnOk, MatchOption, MatchResult};
-ghost use Rattle.ipld_tree.specs.Cid.{CidParts, AreCidParts};
 ghost use Rattle.ipld_links.specs.Blocks.{HasLinks};
 ghost use Rattle.ipld_links.specs.Names.{IsInline};
 ghost use Rattle.ipld_links.specs.Reaching.{Stored, NamesLinks, Walks, GoesOn, Visits, AreLinksOf};

@@ -1,7 +1,6 @@
 //! Finds what a path leads to in a block.
 
-ghost use Rattle.std.specs.Prelude.{◌≡◌, ◌≢◌, map, Some, IfOk, IfErr, IfSome};
-ghost use Rattle.dagcbor_core.specs.declared.error.DecodeError.TheVariants.{OutOfMemory};
+ghost use Rattle.std.specs.Prelude.{map, Some, IfOk, IfErr, IfSome};
 ghost use Rattle.ipld_tree.specs.Tree.{Tree};
 ghost use Rattle.dagcbor_decode.specs.Blocks.{IsBlock};
 ghost use Rattle.dagcbor_decode.specs.Verdicts.{IsRefusedFor};

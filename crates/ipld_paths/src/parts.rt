@@ -1,6 +1,6 @@
 //! One step of a path: the part of an item to which a segment leads.
 
-ghost use Rattle.std.specs.Prelude.{◌≡◌, ◌↔◌, ◌≤◌, ◌<◌, ◌^◌, length, IsTrue, List, ℕ, MatchOption, IfSome};
+ghost use Rattle.std.specs.Prelude.{◌≡◌, ◌<◌, List, ℕ, MatchOption, IfSome};
 ghost use Rattle.ipld_tree.specs.Tree.{text};
 ghost use Rattle.ipld_tree.specs.Spelling.{IsFront};
 ghost use Rattle.ipld_paths.specs.Parts.{EndsWith, FindsItem, FindsValue, FindsPart};

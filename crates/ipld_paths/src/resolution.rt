@@ -1,6 +1,6 @@
 //! Resolves a path over blocks, from a root.
 
-ghost use Rattle.std.specs.Prelude.{◌≡◌, List, ℕ, option_map, MatchResult};
+ghost use Rattle.std.specs.Prelude.{◌≡◌, option_map, MatchResult};
 ghost use Rattle.ipld_tree.specs.Cid.{CidParts};
 ghost use Rattle.ipld_paths.specs.Paths.{segments};
 ghost use Rattle.ipld_tree.specs.Tree.{Tree};

@@ -1,6 +1,6 @@
 //! `changes OLD NEW`: what differs between two files.
 
-ghost use Rattle.std.specs.Prelude.{◌≡◌, ◌≢◌, [], ◌∷◌, codes, map, string_bytes, IfSome, MatchOption, Result, Bool, Option, List, ℕ};
+ghost use Rattle.std.specs.Prelude.{◌≡◌, ◌≢◌, [], ◌∷◌, map, string_bytes, IfSome, MatchOption, Result, Bool, Option, List, ℕ};
 ghost use Rattle.program_parts.specs.Lines.{SaysBoth};
 ghost use Rattle.program_dagcar.specs.Answers.{EndsSo};
 ghost use Rattle.program_dagcar.specs.Commands.{IsChanges};

@@ -1,6 +1,6 @@
 //! What the program says about an index.
 
-ghost use Rattle.std.specs.Prelude.{◌≡◌, IfOk};
+ghost use Rattle.std.specs.Prelude.{IfOk};
 ghost use Rattle.program_dagcar_files.specs.Indexes.{IsToldAlone, IsListingSaid, IsJudgementSaid};
 ghost use Rattle.program_index.specs.declared.judged.Judged.TheVariants.{Found};
 ghost use Rattle.program_dagcar_files.specs.Indexes.{IsBesideSaid, IsWordOf};

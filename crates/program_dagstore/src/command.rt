@@ -7,7 +7,7 @@ ghost use Rattle.ipld_tree.specs.Cid.{CidParts};
 ghost use Rattle.text_cid.specs.Texts.{IsTextOf, IsTextFault};
 ghost use Rattle.program_parts.specs.Paths.{name_part, path_part};
 ghost use Rattle.program_dagstore.specs.Commands.{NamesCodec, AreTextsOf, IsFirstFault, WantsNames};
-ghost use Rattle.program_dagstore.specs.Commands.{NamesCommand, AreWordsOf, IsAskedBy, AreWords};
+ghost use Rattle.program_dagstore.specs.Commands.{NamesCommand, IsAskedBy, AreWords};
 ghost use Rattle.program_dagstore.specs.declared.command.Command.{Command};
 
 use ipld_links::DAG_CBOR;

@@ -1,6 +1,6 @@
 //! `ls`: what is under a path of names, read from a store.
 
-ghost use Rattle.std.specs.Prelude.{◌≡◌, List, ℕ, IfOk, IfErr};
+ghost use Rattle.std.specs.Prelude.{IfOk, IfErr};
 ghost use Rattle.ipld_paths.specs.Paths.{segments};
 ghost use Rattle.dag_pb.specs.Node.{NodeParts, IsNode};
 ghost use Rattle.dag_pb.specs.Reads.{link_of};

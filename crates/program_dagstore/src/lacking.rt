@@ -1,6 +1,6 @@
 //! `check`: the roots that have no block.
 
-ghost use Rattle.std.specs.Prelude.{◌≡◌, [], ◌∷◌, ◌++◌, List, OnOk, IfOk, IfErr, MatchBool};
+ghost use Rattle.std.specs.Prelude.{◌≡◌, [], ◌∷◌, ◌++◌, OnOk, IfOk, IfErr, MatchBool};
 ghost use Rattle.sqlite_trees.specs.View.{IsClean};
 ghost use Rattle.store_on_disk.specs.Stored.{JustReads, FailsByStore};
 ghost use Rattle.store_on_disk.specs.Collecting.{HasBlockAt};

@@ -1,11 +1,11 @@
 //! The output lines of frames.
 
-ghost use Rattle.std.specs.Prelude.{◌≡◌, ◌++◌, codes, option_map, string_bytes, IfOk, OnOk};
+ghost use Rattle.std.specs.Prelude.{◌≡◌, ◌++◌, option_map, string_bytes, IfOk, OnOk};
 ghost use Rattle.std.specs.List.{flat_map};
 ghost use Rattle.program_parts.specs.Lines.{line};
 ghost use Rattle.atproto_mst.specs.Changes.{change_of, changes};
 ghost use Rattle.program_events.specs.Lines.{text_word, word_line, two_words_line};
-ghost use Rattle.program_events.specs.Lines.{operation_word, operation_line, commit_line, sync_line};
+ghost use Rattle.program_events.specs.Lines.{operation_word, operation_line, commit_line};
 ghost use Rattle.program_events.specs.Lines.{activity_word, status_word, account_line};
 
 use atproto_events::{AccountEvent, Change, CommitEvent};

@@ -1,6 +1,6 @@
 //! The words of `inspect`.
 
-ghost use Rattle.std.specs.Prelude.{◌≡◌, [], ◌∷◌, map, string_bytes, option_map, MatchOption, Option, List, ℕ};
+ghost use Rattle.std.specs.Prelude.{[], ◌∷◌, map, string_bytes, option_map, MatchOption, Option, List, ℕ};
 ghost use Rattle.program_inspect.specs.Words.{IsInspect};
 ghost use Rattle.program_inspect.specs.declared.inspect.Form.{Form};
 

@@ -1,8 +1,6 @@
 //! `cat`: the bytes of a file.
 
-ghost use Rattle.std.specs.Prelude.{◌≡◌, [], ◌++◌, List, ℕ, map, option_map, true, false, Some, None, MatchResult, IfOk};
-ghost use Rattle.std.specs.Io.KnownBytes.{Appends};
-ghost use Rattle.ipld_tree.specs.Cid.{cid_bytes};
+ghost use Rattle.std.specs.Prelude.{◌≡◌, [], List, map, option_map, true, false, Some, None, IfOk};
 ghost use Rattle.ipld_links.specs.Reaching.{Stored, stored_in};
 ghost use Rattle.files_unix_fs.specs.Reading.{Asked, asked};
 ghost use Rattle.program_parts.specs.Content.{IsReadTo, IsNextName, SaysContent, SaysNext, TellsStop};

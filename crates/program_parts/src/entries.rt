@@ -1,6 +1,6 @@
 //! `ls`: what is under a path of names.
 
-ghost use Rattle.std.specs.Prelude.{◌≡◌, ◌++◌, List, codes, option_map, IfOk};
+ghost use Rattle.std.specs.Prelude.{◌≡◌, ◌++◌, codes, option_map, IfOk};
 ghost use Rattle.text_cid.specs.Texts.{cid_text};
 ghost use Rattle.ipld_paths.specs.Paths.{segments};
 ghost use Rattle.ipld_links.specs.Reaching.{Stored, stored_in};

@@ -1,6 +1,6 @@
 //! One entry of a directory.
 
-ghost use Rattle.std.specs.Prelude.{◌≡◌, ◌∷◌, ◌++◌, ◌<◌, List, option_map, IfOk, MatchResult};
+ghost use Rattle.std.specs.Prelude.{◌≡◌, ◌∷◌, ◌++◌, ◌<◌, option_map, IfOk, MatchResult};
 ghost use Rattle.std.specs.List.{flat_map};
 ghost use Rattle.ipld_links.specs.Reaching.{Stored, AreBytesOf, stored_in};
 ghost use Rattle.dag_pb.specs.Reads.{link_of};

@@ -1,6 +1,6 @@
 //! Paths of names, through directories.
 
-ghost use Rattle.std.specs.Prelude.{◌≡◌, List, ℕ, option_map, MatchResult, IfOk};
+ghost use Rattle.std.specs.Prelude.{◌≡◌, option_map, MatchResult, IfOk};
 ghost use Rattle.ipld_paths.specs.Paths.{segments};
 ghost use Rattle.ipld_links.specs.Reaching.{Stored, AreBytesOf, stored_in};
 ghost use Rattle.dag_pb.specs.Node.{HasNode};

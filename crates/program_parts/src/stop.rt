@@ -1,7 +1,6 @@
 //! One block of a file that is being read.
 
-ghost use Rattle.std.specs.Prelude.{◌≡◌, ◌++◌, ◌∷◌, [], List, ℕ, map, option_map, IfOk, MatchResult};
-ghost use Rattle.ipld_tree.specs.Cid.{AreCidParts, cid_bytes};
+ghost use Rattle.std.specs.Prelude.{◌≡◌, List, map, option_map, IfOk, MatchResult};
 ghost use Rattle.ipld_links.specs.Reaching.{Stored, AreBytesOf};
 ghost use Rattle.files_unix_fs.specs.Reading.{Asked, asked};
 ghost use Rattle.program_parts.specs.Content.{IsNextName, IsReadOn, IsStopAt};

@@ -1,6 +1,6 @@
 //! `records --json`: the data of each record of a repository, as DAG-JSON.
 
-ghost use Rattle.std.specs.Prelude.{◌≡◌, ◌++◌, IfOk, IfSome};
+ghost use Rattle.std.specs.Prelude.{◌≡◌, IfOk, IfSome};
 ghost use Rattle.ipld_links.specs.Reaching.{stored_in};
 ghost use Rattle.program_parts.specs.Lines.{SaysBoth};
 ghost use Rattle.atproto_mst.specs.Entries.{entries, entry_of};

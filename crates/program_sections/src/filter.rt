@@ -1,6 +1,6 @@
 //! `filter`: a CAR file of the sections that are kept.
 
-ghost use Rattle.std.specs.Prelude.{◌≡◌, [], List, ℕ, Some, Option, Result, IfOk, IfSome};
+ghost use Rattle.std.specs.Prelude.{◌≡◌, [], Option, Result, IfOk, IfSome};
 ghost use Rattle.dagcbor_heads.specs.Inputs.{input_reading};
 ghost use Rattle.dagcbor_items.specs.Walks.{forms};
 ghost use Rattle.files_car.specs.Car.{header_bytes};

@@ -3,7 +3,7 @@
 ghost use Rattle.std.specs.Prelude.{◌≡◌, ◌<◌, length, string_bytes, IfOk, MatchResult};
 ghost use Rattle.dagcbor_items.specs.Walks.{forms};
 ghost use Rattle.files_car.specs.Car.{header_bytes, section_bytes};
-ghost use Rattle.program_sections.specs.Parts.{part_name, roots_of_parts};
+ghost use Rattle.program_sections.specs.Parts.{part_name};
 ghost use Rattle.program_sections.specs.SplitSteps.{IsBegun, IsFaultOf, FinishesPart, IsPlanOf};
 ghost use Rattle.program_sections.specs.SplitSteps.{splitting_work, BeginsNext, MakesRoom, PutsBytes};
 ghost use Rattle.program_sections.specs.SplitSteps.{SplitsSection};

@@ -1,6 +1,6 @@
 //! The words of `split`.
 
-ghost use Rattle.std.specs.Prelude.{◌≡◌, ◌∷◌, [], map, string_bytes, IfOk, MatchOption, List, ℕ};
+ghost use Rattle.std.specs.Prelude.{◌∷◌, [], map, string_bytes, IfOk, MatchOption, List, ℕ};
 ghost use Rattle.ipld_tree.specs.Cid.{CidParts};
 ghost use Rattle.program_sections.specs.SplitWords.{IsSizeText, AreSizeAndFiles, HasSizeAndFiles, IsSplit};
 

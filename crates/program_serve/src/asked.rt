@@ -1,10 +1,9 @@
 //! What the line of a request asks for.
 
-ghost use Rattle.std.specs.Prelude.{◌≡◌, ◌≢◌, ◌^◌, ◌<◌, [], ℕ, MatchOption};
+ghost use Rattle.std.specs.Prelude.{◌≡◌, ◌≢◌, ◌<◌, [], ℕ, MatchOption};
 ghost use Rattle.ipld_tree.specs.Cid.{CidParts};
 ghost use Rattle.text_cid.specs.Texts.{IsTextOf};
-ghost use Rattle.program_dagstore.specs.Commands.{NamesCodec};
-ghost use Rattle.program_serve.specs.Requests.{first_word, after_word, word_text, IsLength, IsSized, Means, AsksFor, wanted};
+ghost use Rattle.program_serve.specs.Requests.{first_word, after_word, IsLength, IsSized, Means, AsksFor, wanted};
 ghost use Rattle.program_serve.specs.declared.asked.Asked.{Asked};
 
 use crate::word::{Word, word_of};

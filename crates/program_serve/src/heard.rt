@@ -1,7 +1,6 @@
 //! Requests to the store, as they come in.
 
-ghost use Rattle.std.specs.Prelude.{◌≡◌, ◌≢◌, ◌<◌, ◌≤◌, ◌++◌, ◌∷◌, [], ℕ, List, length, IfOk, IfErr, IfSome, OnOk, MatchOption};
-ghost use Rattle.std.specs.Io.KnownBytes.{Consumes, IsAtEnd};
+ghost use Rattle.std.specs.Prelude.{◌≡◌, ◌≢◌, ◌<◌, ◌≤◌, ◌++◌, ◌∷◌, [], ℕ, List, length, IfOk, IfErr, OnOk, MatchOption};
 ghost use Rattle.program_shared.specs.declared.fault.ToolError.TheVariants.{Output};
 ghost use Rattle.program_serve.specs.Serving.{IsReadTo, IsPieceRead, IsBlockRead, HearsAsked, Hears};
 

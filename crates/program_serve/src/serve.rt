@@ -1,6 +1,5 @@
 //! A store that answers requests, one after the other.
 
-ghost use Rattle.std.specs.Prelude.{◌≡◌};
 ghost use Rattle.program_serve.specs.Serving.{ServesOne, Serves};
 
 use crate::answer::answer_text;

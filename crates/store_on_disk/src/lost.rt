@@ -1,7 +1,6 @@
 //! The links that lead to no block of the store.
 
-ghost use Rattle.std.specs.Prelude.{◌≡◌, ◌↔◌, IsTrue, IfOk, IfErr, OnOk};
-ghost use Rattle.dagcbor_items.specs.Walks.{forms};
+ghost use Rattle.std.specs.Prelude.{◌≡◌, IfOk, IfErr, OnOk};
 ghost use Rattle.ipld_links.specs.Sets.{Among};
 ghost use Rattle.ipld_links.specs.Blocks.{IsBlockOf};
 ghost use Rattle.sqlite_trees.specs.View.{IsClean};

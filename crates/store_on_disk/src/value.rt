@@ -1,6 +1,6 @@
 //! Storing values, and reading them.
 
-ghost use Rattle.std.specs.Prelude.{◌⊎◌, IsSomeAnd, IfOk, IfErr, option_map};
+ghost use Rattle.std.specs.Prelude.{◌⊎◌, IsSomeAnd, IfOk, IfErr};
 ghost use Rattle.ipld_tree.specs.Spelling.{spelling};
 ghost use Rattle.ipld_links.specs.Names.{block_name};
 ghost use Rattle.sqlite_trees.specs.View.{IsClean};

@@ -1,7 +1,6 @@
 //! Writing the blocks that links lead to as a CAR file.
 
 ghost use Rattle.std.specs.Prelude.{IfOk, IfErr, OnOk};
-ghost use Rattle.sqlite_trees.specs.View.{IsClean};
 ghost use Rattle.store_rows.specs.Ends.{Quiet};
 ghost use Rattle.store_on_disk.specs.Trees.{WritesTree, TreeRefused, TreeUnsent, WritesNames};
 ghost use Rattle.store_on_disk.specs.Trees.{NamesUnwritten, WritesNamed};

@@ -1,7 +1,7 @@
 //! Devices of a caller's own: a reader that shows few bytes a fill and may fail, and a writer that
 //! fails.
 
-ghost use Rattle.std.specs.Prelude.{◌≡◌, [], ◌++◌, List, ℕ};
+ghost use Rattle.std.specs.Prelude.{[]};
 
 use serde_ipld_dagcbor::{EncodeError, Read, Tally, Write};
 use std::alloc::Global;

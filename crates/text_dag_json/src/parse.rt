@@ -1,6 +1,6 @@
 //! Reading data from a text of JSON.
 
-ghost use Rattle.std.specs.Prelude.{◌≡◌, ◌≢◌, ◌≤◌, length, Ok, Err, IfOk, IfErr, MatchResult, IsUtf8, if◌then◌else◌};
+ghost use Rattle.std.specs.Prelude.{◌≡◌, ◌≢◌, ◌≤◌, length, Ok, Err, IfOk, IfErr, IsUtf8, if◌then◌else◌};
 ghost use Rattle.std.specs.Str.Lossy.{utf8_valid_len};
 ghost use Rattle.json.specs.Lex.{tokens};
 ghost use Rattle.json.specs.Value.{value_view};

@@ -1,11 +1,9 @@
 //! Reading data from JSON values.
 
-ghost use Rattle.std.specs.Prelude.{◌≡◌, ◌≢◌, ◌↔◌, [], Ok, Err, IfOk, IfErr, IsTrue, List, ℕ, ◌∷◌, ◌++◌, OnOk, string_bytes};
+ghost use Rattle.std.specs.Prelude.{◌≡◌, ◌≢◌, [], Ok, Err, IfOk, IfErr, List, ℕ, ◌∷◌, ◌++◌, OnOk, string_bytes};
 ghost use Rattle.std.specs.Prelude.{string_cmp};
 ghost use Rattle.std.specs.BTreeMap.{insert_entry};
-ghost use Rattle.std.specs.Str.{bytes_eq};
 ghost use Rattle.json.specs.Value.{value_view, items_view, members_view};
-ghost use Rattle.ipld_tree.specs.Cid.{cid_bytes};
 ghost use Rattle.json.specs.Json as json;
 ghost use Rattle.ipld_tree.specs.Tree.{Tree, ordered_entries};
 ghost use Rattle.ipld_tree.specs.Ipld.{tree_of, trees_of, pairs_of};

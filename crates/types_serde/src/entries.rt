@@ -1,7 +1,7 @@
 //! The entries of a map, all in one buffer, and their order.
 
 ghost use Rattle.std.specs.Prelude.{◌≡◌, ◌<◌, ◌++◌, length, map, IsTrue, OnOk, IfErr, IsPermutation};
-ghost use Rattle.std.specs.List.{All, slice_range, flat_map};
+ghost use Rattle.std.specs.List.{All, flat_map};
 ghost use Rattle.dagcbor_write.specs.Order.{PutsInOrder};
 ghost use Rattle.types_serde.specs.Holds.{AreInOrder, StandsBefore};
 ghost use Rattle.dagcbor_write.specs.Spans.{whole_at, IsWithin, entry_at};

@@ -1,6 +1,6 @@
 //! What is open: the whole value, a list, a map or a link, as offsets in the buffer of all bytes.
 
-ghost use Rattle.std.specs.Prelude.{IfErr, ◌≡◌, ◌≢◌, ◌≤◌, ◌<◌, ◌+◌, ◌++◌, ◌∷◌, length, take, drop, OnOk, MatchBool};
+ghost use Rattle.std.specs.Prelude.{IfErr, ◌≡◌, ◌≢◌, ◌≤◌, ◌<◌, ◌+◌, ◌++◌, ◌∷◌, length, take, drop, OnOk};
 ghost use Rattle.dagcbor_core.specs.Head.{head};
 ghost use Rattle.types_serde.specs.Refusing.{LacksMemory, LacksMemoryOrPlace, ItemRefused};
 

@@ -1,7 +1,7 @@
 //! Reading whole values from sources, through the bytes of one block: a `Deserializer` of serde
 //! reads a slice.
 
-ghost use Rattle.std.specs.Prelude.{◌≡◌, IfOk, IfErr, OnOk, IfSome};
+ghost use Rattle.std.specs.Prelude.{IfOk, IfErr, OnOk, IfSome};
 ghost use Rattle.dagcbor_heads.specs.Inputs.{OverInput};
 ghost use Rattle.dagcbor_items.specs.AnsweredVariants.{OfItem};
 ghost use Rattle.types_serde.specs.Sources.{PullsBlock, IsBlockWith, SourceRefused};

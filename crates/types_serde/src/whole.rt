@@ -1,6 +1,6 @@
 //! Reading and writing whole values.
 
-ghost use Rattle.std.specs.Prelude.{◌≡◌, ◌≤◌, ℕ, List, [], Some, length, IfOk, IfErr, OnOk};
+ghost use Rattle.std.specs.Prelude.{◌≤◌, [], Some, length, IfOk, IfErr, OnOk};
 ghost use Rattle.serde.specs.Event.{Log};
 ghost use Rattle.dagcbor_decode.specs.Blocks.{IsBlock};
 ghost use Rattle.ipld_tree.specs.Tree.{Tree};

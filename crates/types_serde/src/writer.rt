@@ -1,7 +1,6 @@
 //! DAG-CBOR as a `Serializer` of serde, which keeps the events for proofs.
 
 ghost use Rattle.std.specs.Prelude.{◌≡◌, [], Some, IfOk, false};
-ghost use Rattle.ipld_tree.specs.Tree.{Tree};
 ghost use Rattle.types_serde.specs.Holds.{FollowsUnless, IsGoodLog};
 
 use crate::error::WriteError;

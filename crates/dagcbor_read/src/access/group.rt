@@ -1,12 +1,11 @@
 //! Groups of fields that come before others in a row: one field, or two groups.
 
-ghost use Rattle.std.specs.Prelude.{◌≡◌, ◌<◌, ℕ, List, [], Option, None, Some, option_map, Err, IfErr};
-ghost use Rattle.std.specs.Prelude.{IfSome, IsSomeAnd, MatchOption, false, ⊤};
+ghost use Rattle.std.specs.Prelude.{◌≡◌, ◌<◌, ℕ, List, Option, None, Some, option_map, Err, IfErr};
+ghost use Rattle.std.specs.Prelude.{IfSome, IsSomeAnd, MatchOption, false};
 ghost use Rattle.std.specs.Option.{option_flatten};
 ghost use Rattle.dagcbor_core.specs.declared.error.DecodeError.{DecodeError};
 ghost use Rattle.dagcbor_items.specs.Shapes.{option_of};
 ghost use Rattle.dagcbor_read.specs.Accessors.{accessor_state};
-ghost use Rattle.dagcbor_read.specs.Collections.{slot_of};
 ghost use Rattle.dagcbor_read.specs.Deserializers.{DeState, de_state, Over};
 ghost use Rattle.dagcbor_read.specs.Joining.{OwnShape, HeldBefore, ShapeBefore, JoinsShape};
 ghost use Rattle.dagcbor_read.specs.Joining.{FinishBefore, JoinsFinish, ReadsOwnNamed};

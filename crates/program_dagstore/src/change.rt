@@ -1,6 +1,6 @@
 //! `put`, `remove` and `gc`: blocks that are stored and removed.
 
-ghost use Rattle.std.specs.Prelude.{◌≡◌, ◌⊎◌, OnOk, IfOk, IfErr, MatchResult};
+ghost use Rattle.std.specs.Prelude.{◌≡◌, ◌⊎◌, OnOk, IfOk, IfErr, MatchResult, codes};
 ghost use Rattle.sqlite_trees.specs.View.{IsClean};
 ghost use Rattle.store_on_disk.specs.Collecting.{KeepsReachable};
 ghost use Rattle.store_on_disk.specs.Ends.{Quiet};
